@@ -1,0 +1,54 @@
+-- The exact cosine transform (01, "Elements"), for blocks of any number of dimensions.
+-- A block of d dimensions has 8^d samples, x 0 to x (8^d - 1). The base-8 digits of a sample's index are its places along the dimensions,
+-- and those of an element's index its frequencies: in two dimensions sample (i,j) is x (8i+j), and element (u,v) stands at 8u+v.
+use mathlib.Core.Bool.{Bool, false, cond, _&&_, _||_}
+use mathlib.Core.List.{List, [], _∷_}
+use Prim.Native.Nat.{ℕ, zero, suc, _+_, _*_, _/_, _%_, _^_}
+use lib.Dec.{eqb}
+use lib.IntN.{ℤ, pos}
+use Rattle.integers.specs.Sum.{sum}
+use Rattle.ring.specs.Element.{add, scale, number, cosine, mul}
+
+-- t(k,n), the factor of frequency k at sample place n: c_4 where k = 0, and c_((2n+1)·k) otherwise
+unfoldable pub factor : ℕ → ℕ → List ℤ
+factor zero n = cosine (pos 4)
+factor (suc k) n = cosine (pos ((2 * n + 1) * suc k))
+
+-- the product of the factors along d dimensions
+unfoldable pub factors : ℕ → ℕ → ℕ → List ℤ
+factors zero p q = number (pos 1)
+factors (suc d) p q = mul (factors d (p / 8) (q / 8)) (factor (p % 8) (q % 8))
+
+-- the exact element of block x at index p
+unfoldable pub element : ℕ → (ℕ → ℤ) → ℕ → List ℤ
+element d x p = sum [] add (8 ^ d) (λ q. scale (x q) (factors d p q))
+
+-- 01's own words for two dimensions: the element at (u,v) is the sum over all i, j of x(i,j) × t(u,i) × t(v,j)
+unfoldable pub double-sum : (ℕ → ℕ → ℤ) → ℕ → ℕ → List ℤ
+double-sum x u v = sum [] add 8 (λ i. sum [] add 8 (λ j. scale (x i j) (mul (factor u i) (factor v j))))
+
+-- the 8-point step as a plain sum: from the elements r 0 to r 7 of one row, the one of frequency k
+unfoldable pub step : (ℕ → List ℤ) → ℕ → List ℤ
+step r k = sum [] add 8 (λ n. mul (r n) (factor k n))
+
+-- ---- which components may be non-zero at (u,v), by rising index (01, "Consequences to be shown")
+
+abbrev odd : ℕ → Bool
+odd k = eqb (k % 2) 1
+
+-- 2 and 6
+abbrev two-or-six : ℕ → Bool
+two-or-six k = eqb (k % 4) 2
+
+-- k stands in the list
+abbrev pub among : List ℕ → ℕ → Bool
+among [] k = false
+among (a ∷ l) k = eqb a k || among l k
+
+unfoldable pub components-at : ℕ → ℕ → List ℕ
+components-at u v =
+    cond (odd u && odd v) (0 ∷ 2 ∷ 4 ∷ 6 ∷ [])
+    (cond (odd u || odd v) (1 ∷ 3 ∷ 5 ∷ 7 ∷ [])
+    (cond (two-or-six u && two-or-six v) (0 ∷ 4 ∷ [])
+    (cond (two-or-six u || two-or-six v) (2 ∷ 6 ∷ [])
+    (0 ∷ []))))

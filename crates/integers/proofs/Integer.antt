@@ -1,0 +1,191 @@
+-- The integers as an ordered commutative ring.
+-- No tactic reads ℤ. So an integer is written as a difference of two naturals, `dif a b`, behind a shut name; the rules below carry
+-- +, -, *, ≡ and ≤ over to naturals, and each law is then one call of `omega`.
+-- Assumes nothing.
+use mathlib.Core.Path.{_≡_, refl, sym, ap, _∙_, subst}
+use mathlib.Core.Logic.{_↔_}
+use mathlib.Core.Bool.{Bool, true, false, not, cond}
+use Prim.Native.Nat.{ℕ, zero, suc, _+_, _*_, _-_, _≤_, _<_}
+use native.Mathlib.Omega.{arith}
+use native.Mathlib.Nat.{eq-of-mul-eq-mul-left, mul-le-mul-left}
+use lib.Dec.{T, ltb, leb, ltb→lt, nltb→le, leb→le, le→leb}
+use lib.IntN.{ℤ, pos, negsuc, subℕ, _+ℤ_, _-ℤ_, _*ℤ_, negℤ, natAbs}
+use lib.Signed.{_≤ℤ_, leZ}
+
+-- ---- an integer as a difference
+
+pub dif : ℕ → ℕ → ℤ
+dif a b = subℕ a b
+
+abbrev pub up : ℤ → ℕ
+up (pos n) = n
+up (negsuc n) = zero
+
+abbrev pub down : ℤ → ℕ
+down (pos n) = zero
+down (negsuc n) = suc n
+
+cond-ind : (c : Bool) (x y : ℤ) (P : ℤ → Type 0) → (T c → P x) → (T (not c) → P y) → P (cond c x y)
+cond-ind true x y P f g = f tt
+cond-ind false x y P f g = g tt
+
+-- what a statement of `dif a b` asks: the two cases of the order of a and b
+by-order : (a b : ℕ) (P : ℤ → Type 0) → ((n : ℕ) → a ≡ b + n → P (pos n)) → ((n : ℕ) → b ≡ a + suc n → P (negsuc n)) → P (dif a b)
+unfolding dif
+by-order a b P f g =
+    cond-ind (ltb a b) (negsuc (b - suc a)) (pos (a - b)) P
+    (λ t. let h : a < b = ltb→lt a b t in g (b - suc a) (omega arith))
+    (λ t. let h : b ≤ a = nltb→le a b t in f (a - b) (omega arith))
+
+-- equal differences are the same integer
+pub dif-same : (a b c d : ℕ) → a + d ≡ c + b → dif a b ≡ dif c d
+dif-same a b c d e =
+    by-order a b (λ z. z ≡ dif c d)
+    (λ n p. by-order c d (λ z. pos n ≡ z) (λ m q. ap pos (omega arith)) (λ m q. absurd (omega arith)))
+    (λ n p. by-order c d (λ z. negsuc n ≡ z) (λ m q. absurd (omega arith)) (λ m q. ap negsuc (omega arith)))
+
+-- up to a common k, the difference of a and b is the one of its value's own parts
+common : (a b : ℕ) → (k : ℕ) × (a ≡ up (dif a b) + k) × (b ≡ down (dif a b) + k)
+common a b =
+    by-order a b (λ z. (k : ℕ) × (a ≡ up z + k) × (b ≡ down z + k))
+    (λ n p. (b, omega arith, omega arith))
+    (λ n p. (a, omega arith, omega arith))
+
+dif-pos : (n : ℕ) → pos n ≡ dif n zero
+dif-pos n = by-order n zero (λ z. pos n ≡ z) (λ m q. ap pos (omega arith)) (λ m q. absurd (omega arith))
+
+dif-negsuc : (n : ℕ) → negsuc n ≡ dif zero (suc n)
+dif-negsuc n = by-order zero (suc n) (λ z. negsuc n ≡ z) (λ m q. absurd (omega arith)) (λ m q. ap negsuc (omega arith))
+
+pub parts : (z : ℤ) → z ≡ dif (up z) (down z)
+parts (pos n) = dif-pos n
+parts (negsuc n) = dif-negsuc n
+
+-- ---- the operations
+
+neg-parts : (z : ℤ) → negℤ z ≡ dif (down z) (up z)
+neg-parts (pos zero) = dif-pos zero
+neg-parts (pos (suc n)) = dif-negsuc n
+neg-parts (negsuc n) = dif-pos (suc n)
+
+pub add-parts : (z w : ℤ) → z +ℤ w ≡ dif (up z + up w) (down z + down w)
+unfolding dif
+add-parts (pos a) (pos b) = dif-pos (a + b) ∙ dif-same (a + b) 0 (a + b) (0 + 0) (omega arith)
+add-parts (pos a) (negsuc b) = dif-same a (suc b) (a + 0) (0 + suc b) (omega arith)
+add-parts (negsuc a) (pos b) = dif-same b (suc a) (0 + b) (suc a + 0) (omega arith)
+add-parts (negsuc a) (negsuc b) = dif-negsuc (suc (a + b)) ∙ dif-same 0 (suc (suc (a + b))) (0 + 0) (suc a + suc b) (omega arith)
+
+mul-parts : (z w : ℤ) → z *ℤ w ≡ dif (up z * up w + down z * down w) (up z * down w + down z * up w)
+mul-parts (pos a) (pos b) = dif-pos (a * b) ∙ dif-same _ _ _ _ (omega arith)
+mul-parts (pos a) (negsuc b) = neg-parts (pos (a * suc b)) ∙ dif-same _ _ _ _ (omega arith)
+mul-parts (negsuc a) (pos b) = neg-parts (pos (suc a * b)) ∙ dif-same _ _ _ _ (omega arith)
+mul-parts (negsuc a) (negsuc b) = dif-pos (suc a * suc b) ∙ dif-same _ _ _ _ (omega arith)
+
+pub dif-neg : (a b : ℕ) → negℤ (dif a b) ≡ dif b a
+dif-neg a b = let (k, p, q) = common a b in neg-parts (dif a b) ∙ dif-same _ _ _ _ (omega arith)
+
+pub dif-add : (a b c d : ℕ) → dif a b +ℤ dif c d ≡ dif (a + c) (b + d)
+dif-add a b c d =
+    let (k, p, q) = common a b in
+    let (l, r, s) = common c d in
+    add-parts (dif a b) (dif c d) ∙ dif-same _ _ _ _ (omega arith)
+
+product-same : (u v w x k l a b c d : ℕ) → a ≡ u + k → b ≡ v + k → c ≡ w + l → d ≡ x + l
+    → u * w + v * x + (a * d + b * c) ≡ a * c + b * d + (u * x + v * w)
+product-same u v w x k l a b c d p q r s = rw (p, q, r, s) (omega arith)
+
+pub dif-mul : (a b c d : ℕ) → dif a b *ℤ dif c d ≡ dif (a * c + b * d) (a * d + b * c)
+dif-mul a b c d =
+    let (k, p, q) = common a b in
+    let (l, r, s) = common c d in
+    mul-parts (dif a b) (dif c d) ∙ dif-same _ _ _ _ (product-same _ _ _ _ k l a b c d p q r s)
+
+-- ---- the order
+
+le-parts : (z w : ℤ) → (z ≤ℤ w) ↔ (up z + down w ≤ up w + down z)
+le-parts (pos a) (pos b) = (λ h. let k : a ≤ b = leb→le a b (h .le) in omega arith, λ h. record { le = le→leb a b (omega arith) })
+le-parts (pos a) (negsuc b) = (λ h. absurd (h .le), λ h. absurd (omega arith))
+le-parts (negsuc a) (pos b) = (λ h. omega arith, λ h. record { le = tt })
+le-parts (negsuc a) (negsuc b) = (λ h. let k : b ≤ a = leb→le b a (h .le) in omega arith, λ h. record { le = le→leb b a (omega arith) })
+
+pub dif-le : (a b c d : ℕ) → (dif a b ≤ℤ dif c d) ↔ (a + d ≤ c + b)
+dif-le a b c d =
+    let (k, p, q) = common a b in
+    let (l, r, s) = common c d in
+    (λ h. let t = le-parts (dif a b) (dif c d) .0 h in omega arith, λ h. le-parts (dif a b) (dif c d) .1 (omega arith))
+
+pub dif-natAbs : (a b : ℕ) → natAbs (dif a b) ≤ a + b
+dif-natAbs a b = by-order a b (λ z. natAbs z ≤ a + b) (λ n p. omega arith) (λ n p. omega arith)
+
+-- the converse of `dif-same`
+pub same-dif : (a b c d : ℕ) → dif a b ≡ dif c d → a + d ≡ c + b
+same-dif a b c d e =
+    let (k, p, q) = common a b in
+    let (l, r, s) = common c d in
+    let u : up (dif a b) ≡ up (dif c d) = ap up e in
+    let v : down (dif a b) ≡ down (dif c d) = ap down e in
+    omega arith
+
+-- ---- the ring: each variable by its parts, the rules, and `omega`. What is not here `lib.IntN` has
+
+ruleset difs = (dif-add, dif-mul, dif-neg)
+
+pub *ℤ-assoc : (a b c : ℤ) → (a *ℤ b) *ℤ c ≡ a *ℤ (b *ℤ c)
+*ℤ-assoc a b c = rw (parts a, parts b, parts c) (simp difs (dif-same _ _ _ _ (omega arith)))
+
+pub *ℤ-+ℤ : (a b c : ℤ) → a *ℤ (b +ℤ c) ≡ a *ℤ b +ℤ a *ℤ c
+*ℤ-+ℤ a b c = rw (parts a, parts b, parts c) (simp difs (dif-same _ _ _ _ (omega arith)))
+
+pub +ℤ-*ℤ : (a b c : ℤ) → (a +ℤ b) *ℤ c ≡ a *ℤ c +ℤ b *ℤ c
++ℤ-*ℤ a b c = rw (parts a, parts b, parts c) (simp difs (dif-same _ _ _ _ (omega arith)))
+
+pub *ℤ-pos1 : (a : ℤ) → a *ℤ pos 1 ≡ a
+*ℤ-pos1 a = rw (parts a, parts (pos 1)) (simp difs (dif-same _ _ _ _ (omega arith)))
+
+pub negℤ-*ℤ : (a b : ℤ) → negℤ a *ℤ b ≡ negℤ (a *ℤ b)
+negℤ-*ℤ a b = rw (parts a, parts b) (simp difs (dif-same _ _ _ _ (omega arith)))
+
+pub negℤ--ℤ : (a b : ℤ) → negℤ (a -ℤ b) ≡ b -ℤ a
+negℤ--ℤ a b = rw (parts a, parts b) (simp difs (dif-same _ _ _ _ (omega arith)))
+
+pub -ℤ--ℤ : (a b : ℤ) → a -ℤ (a -ℤ b) ≡ b
+-ℤ--ℤ a b = rw (parts a, parts b) (simp difs (dif-same _ _ _ _ (omega arith)))
+
+-- a positive factor cancels
+pub *ℤ-cancel : {n : ℕ} → 0 < n → {a b : ℤ} → pos n *ℤ a ≡ pos n *ℤ b → a ≡ b
+*ℤ-cancel {n} h {a} {b} e =
+    let q = same-dif _ _ _ _ (sym (mul-parts (pos n) a) ∙ e ∙ mul-parts (pos n) b) in
+    let r : n * (up a + down b) ≡ n * (up b + down a) = omega arith in
+    let t = eq-of-mul-eq-mul-left n h (up a + down b) (up b + down a) r in
+    rw (parts a, parts b) (dif-same _ _ _ _ t)
+
+-- ---- the order
+
+pub ≤ℤ-trans : {a b c : ℤ} → a ≤ℤ b → b ≤ℤ c → a ≤ℤ c
+≤ℤ-trans {a} {b} {c} h k =
+    let p = le-parts a b .0 h in
+    let q = le-parts b c .0 k in
+    le-parts a c .1 (omega arith)
+
+pub ≤ℤ-antisym : {a b : ℤ} → a ≤ℤ b → b ≤ℤ a → a ≡ b
+≤ℤ-antisym {a} {b} h k =
+    let p = le-parts a b .0 h in
+    let q = le-parts b a .0 k in
+    rw (parts a, parts b) (dif-same _ _ _ _ (omega arith))
+
+pub +ℤ-≤ℤ : {a b c d : ℤ} → a ≤ℤ b → c ≤ℤ d → (a +ℤ c) ≤ℤ (b +ℤ d)
++ℤ-≤ℤ {a} {b} {c} {d} h k =
+    let p = le-parts a b .0 h in
+    let q = le-parts c d .0 k in
+    rw (parts a, parts b, parts c, parts d) (simp difs (dif-le _ _ _ _ .1 (omega arith)))
+
+pub negℤ-≤ℤ : {a b : ℤ} → a ≤ℤ b → negℤ b ≤ℤ negℤ a
+negℤ-≤ℤ {a} {b} h =
+    let p = le-parts a b .0 h in
+    rw (parts a, parts b) (simp difs (dif-le _ _ _ _ .1 (omega arith)))
+
+-- a factor that is not negative keeps the order
+pub *ℤ-≤ℤ : (n : ℕ) {a b : ℤ} → a ≤ℤ b → (pos n *ℤ a) ≤ℤ (pos n *ℤ b)
+*ℤ-≤ℤ n {a} {b} h =
+    let p = le-parts a b .0 h in
+    rw (parts a, parts b, parts (pos n)) (simp difs (dif-le _ _ _ _ .1 (omega (arith, mul-le-mul-left n p))))

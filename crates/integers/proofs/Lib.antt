@@ -1,0 +1,6 @@
+-- The laws that every other crate cites.
+pub mod Integer
+pub mod Magnitude
+pub mod Sums
+pub mod Tables
+pub mod Tests

@@ -1,0 +1,41 @@
+-- The magnitude of an integer.
+-- Assumes nothing.
+use mathlib.Core.Path.{_≡_, refl, sym, ap, _∙_}
+use Prim.Native.Nat.{ℕ, zero, suc, _+_, _*_, _^_, _≤_, _<_}
+use native.Mathlib.Omega.{arith}
+use native.Mathlib.Nat.{add-zero, zero-add, le-refl, le-trans, le-suc, lt-of-le-of-lt}
+use lib.IntN.{ℤ, pos, negsuc, _+ℤ_, _-ℤ_, _*ℤ_, negℤ, natAbs}
+use lib.Signed.{mag}
+use mir.Syntax.{Width}
+use mir.Val.{SFits, hbits}
+use Rattle.integers.proofs.Integer.{up, down, add-parts, dif-natAbs}
+
+pub natAbs-neg : (a : ℤ) → natAbs (negℤ a) ≡ natAbs a
+natAbs-neg (pos zero) = refl
+natAbs-neg (pos (suc n)) = refl
+natAbs-neg (negsuc n) = refl
+
+pub natAbs-mul : (a b : ℤ) → natAbs (a *ℤ b) ≡ natAbs a * natAbs b
+natAbs-mul (pos a) (pos b) = refl
+natAbs-mul (pos a) (negsuc b) = natAbs-neg (pos (a * suc b))
+natAbs-mul (negsuc a) (pos b) = natAbs-neg (pos (suc a * b))
+natAbs-mul (negsuc a) (negsuc b) = refl
+
+natAbs-parts : (a : ℤ) → natAbs a ≡ up a + down a
+natAbs-parts (pos n) = sym (add-zero n)
+natAbs-parts (negsuc n) = sym (zero-add (suc n))
+
+pub natAbs-add : (a b : ℤ) → natAbs (a +ℤ b) ≤ natAbs a + natAbs b
+natAbs-add a b =
+    rw (natAbs-parts a, natAbs-parts b, add-parts a b) (le-trans (dif-natAbs (up a + up b) (down a + down b)) (omega arith))
+
+pub natAbs-sub : (a b : ℤ) → natAbs (a -ℤ b) ≤ natAbs a + natAbs b
+natAbs-sub a b = rw (natAbs-neg b) at (natAbs-add a (negℤ b))
+
+mag-le : (a : ℤ) → mag a ≤ natAbs a
+mag-le (pos n) = le-refl n
+mag-le (negsuc n) = le-suc n
+
+-- an integer whose magnitude is below half of the width's power fits the width
+pub small-fits : (w : Width) (a : ℤ) → natAbs a < 2 ^ hbits w → SFits w a
+small-fits w a h = record { sfits = lt-of-le-of-lt (mag-le a) h }

@@ -1,0 +1,7 @@
+-- The laws of the ring, from the bottom up.
+pub mod Linear
+pub mod Product
+pub mod Components
+pub mod Magnitude
+pub mod Ring
+pub mod Cosines
