@@ -142,8 +142,11 @@ pub +ℤ-*ℤ : (a b c : ℤ) → (a +ℤ b) *ℤ c ≡ a *ℤ c +ℤ b *ℤ c
 pub *ℤ-pos1 : (a : ℤ) → a *ℤ pos 1 ≡ a
 *ℤ-pos1 a = rw (parts a, parts (pos 1)) (simp difs (dif-same _ _ _ _ (omega arith)))
 
-pub negℤ-*ℤ : (a b : ℤ) → negℤ a *ℤ b ≡ negℤ (a *ℤ b)
-negℤ-*ℤ a b = rw (parts a, parts b) (simp difs (dif-same _ _ _ _ (omega arith)))
+pub *ℤ-negℤ : (a b : ℤ) → a *ℤ negℤ b ≡ negℤ (a *ℤ b)
+*ℤ-negℤ a b = rw (parts a, parts b) (simp difs (dif-same _ _ _ _ (omega arith)))
+
+pub minus-one-*ℤ : (a : ℤ) → negsuc 0 *ℤ a ≡ negℤ a
+minus-one-*ℤ a = rw (parts a, parts (negsuc 0)) (simp difs (dif-same _ _ _ _ (omega arith)))
 
 pub negℤ--ℤ : (a b : ℤ) → negℤ (a -ℤ b) ≡ b -ℤ a
 negℤ--ℤ a b = rw (parts a, parts b) (simp difs (dif-same _ _ _ _ (omega arith)))

@@ -2,7 +2,7 @@
 -- Assumes nothing.
 use mathlib.Core.Path.{_≡_, refl, sym, ap, _∙_}
 use mathlib.Core.List.{List, [], _∷_}
-use Prim.Native.Nat.{ℕ, zero, suc, _+_, _≤_, _<_}
+use Prim.Native.Nat.{ℕ, zero, suc, _+_, _≤_, _<_, zero-le}
 use native.Mathlib.Omega.{arith}
 use native.Mathlib.Nat.{le-of-suc-le-suc, not-suc-le-zero}
 use native.Mathlib.Decide.{ℕ-discrete}
@@ -25,20 +25,25 @@ module _ {A : Type 0} where
   is-table d l n f e h =
       ext-getD d l (table n f) (e ∙ sym (length-table n f)) (λ i b. let k : i < n = rw e at b in h i k ∙ sym (getD-table n f d i k))
 
-  -- the buffer has n places, and its first i hold f 0 to f (i - 1)
-  abbrev pub Filled : A → ℕ → (ℕ → A) → ℕ → List A → Type 0
-  Filled d n f i l = (length l ≡ n) × ((k : ℕ) → k < i → getD l k d ≡ f k)
+-- ---- a loop that fills a buffer from the front
 
-  module _ (d : A) (n : ℕ) (f : ℕ → A) where
-    pub filled-none : (l : List A) → length l ≡ n → Filled d n f 0 l
-    filled-none l e = (e, λ k h. absurd (not-suc-le-zero h))
+-- the buffer l has n places, and the first i hold f 0 to f (i - 1); d is what `getD` gives past the end
+pub record Filled {A : Type 0} (d : A) (n : ℕ) (f : ℕ → A) (i : ℕ) (l : List A) : Type 0 where
+  pub size : length l ≡ n
+  pub room : i ≤ n
+  pub done : (k : ℕ) → k < i → getD l k d ≡ f k
 
-    pub filled-more : (i : ℕ) (l : List A) (v : A) → i < n → Filled d n f i l → v ≡ f i → Filled d n f (i + 1) (set l i v)
-    filled-more i l v h F e = (length-set l i v ∙ F .0, λ k b. go k b (ℕ-discrete k i))
-      where
-        go : (k : ℕ) → k < i + 1 → Dec (k ≡ i) → getD (set l i v) k d ≡ f k
-        go k b (yes p) = rw p (getD-set-same l i v d (rw (F .0) h) ∙ e)
-        go k b (no q) = getD-set-other l i k v d q ∙ F .1 k (omega arith)
+module _ {A : Type 0} {d : A} {n : ℕ} {f : ℕ → A} where
+  pub filled-none : {l : List A} → length l ≡ n → Filled d n f 0 l
+  filled-none e = record { size = e; room = zero-le; done = λ k h. absurd (not-suc-le-zero h) }
 
-    pub filled-all : (i : ℕ) (l : List A) → n ≤ i → Filled d n f i l → l ≡ table n f
-    filled-all i l h F = is-table d l n f (F .0) (λ k b. F .1 k (omega arith))
+  pub filled-more : {i : ℕ} {l : List A} {v : A} → i < n → Filled d n f i l → v ≡ f i → Filled d n f (i + 1) (set l i v)
+  filled-more {i} {l} {v} h F e =
+      record { size = length-set l i v ∙ F .size; room = omega arith; done = λ k b. go k b (ℕ-discrete k i) }
+    where
+      go : (k : ℕ) → k < i + 1 → Dec (k ≡ i) → getD (set l i v) k d ≡ f k
+      go k b (yes p) = rw p (getD-set-same l i v d (rw (F .size) h) ∙ e)
+      go k b (no q) = getD-set-other l i k v d q ∙ F .done k (omega arith)
+
+  pub filled-all : {i : ℕ} {l : List A} → n ≤ i → Filled d n f i l → l ≡ table n f
+  filled-all {i} {l} h F = is-table d l n f (F .size) (λ k b. F .done k (omega arith))

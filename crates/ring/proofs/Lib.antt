@@ -2,6 +2,7 @@
 pub mod Linear
 pub mod Product
 pub mod Components
+pub mod Forms
 pub mod Magnitude
 pub mod Ring
 pub mod Cosines

@@ -1,0 +1,69 @@
+-- How far an operation lets the components grow: a sum and a difference to the sum of the bounds, a product with c_k to twice the bound.
+-- Assumes nothing.
+use mathlib.Core.Path.{_≡_, subst}
+use mathlib.Core.Bool.{Bool, true, false, cond}
+use mathlib.Core.List.{List}
+use Prim.Native.Nat.{ℕ, _+_, _-_, _≤_, _<_, zero-le}
+use native.Mathlib.Nat.{le-trans, add-le-add}
+use native.Mathlib.Decide.{decLt}
+use native.Mathlib.Omega.{arith}
+use lib.Dec.{ltb, lit<}
+use lib.IntN.{ℤ, pos, _+ℤ_, negℤ, natAbs}
+use lib.ListN.{List·getD-eq-default}
+use mir.Syntax.{w32}
+use mir.Val.{SFits, ofZ, toZ}
+use Rattle.integers.proofs.Signed.{op-fits, op-kept}
+use Rattle.integers.specs.Table.{table}
+use Rattle.integers.proofs.Magnitude.{natAbs-neg, natAbs-add, natAbs-sub}
+use Rattle.integers.proofs.Tables.{length-table, getD-table}
+use Rattle.ring.specs.Element.{component, add, subtract, cosine, mul}
+use Rattle.ring.proofs.Components.{Eight, component-add}
+use Rattle.elements.specs.Bound.{Within, headroom}
+use Rattle.elements.specs.Spread.{continued, spread, folded}
+use Rattle.elements.proofs.Sums.{component-subtract}
+use Rattle.elements.proofs.Products.{folded-spread}
+
+pub within-le : {A B : ℕ} {a : List ℤ} → A ≤ B → Within A a → Within B a
+within-le h w = record { within = λ k. le-trans (w .within k) h }
+
+pub within-add : {A B : ℕ} {a b : List ℤ} → Within A a → Within B b → Within (A + B) (add a b)
+within-add {A} {B} {a} {b} p q =
+    record { within = λ k. rw (component-add a b k) (le-trans (natAbs-add (component a k) (component b k)) (add-le-add (p .within k) (q .within k))) }
+
+pub within-subtract : {A B : ℕ} {a b : List ℤ} → Within A a → Within B b → Within (A + B) (subtract a b)
+within-subtract {A} {B} {a} {b} p q =
+    record { within = λ k. rw (component-subtract a b k) (le-trans (natAbs-sub (component a k) (component b k)) (add-le-add (p .within k) (q .within k))) }
+
+within-table : (B n : ℕ) (f : ℕ → ℤ) → ((k : ℕ) → k < n → natAbs (f k) ≤ B) → Within B (table n f)
+within-table B n f h = record { within = λ k. go k (decLt k n) }
+  where
+    go : (k : ℕ) → Dec (k < n) → natAbs (component (table n f) k) ≤ B
+    go k (yes l) = rw (getD-table n f (pos 0) k l) (h k l)
+    go k (no l) = rw (List·getD-eq-default (table n f) (pos 0) {n = k} (rw (length-table n f) (omega arith))) zero-le
+
+within-cond : (B : ℕ) (t : Bool) (x y : ℤ) → natAbs x ≤ B → natAbs y ≤ B → natAbs (cond t x y) ≤ B
+within-cond B true x y p q = p
+within-cond B false x y p q = q
+
+pub within-spread : {B : ℕ} {a : List ℤ} → Within B a → Within B (spread a)
+unfolding spread continued
+within-spread {B} {a} w =
+    within-table B 22 (continued a) (λ j h. within-cond B (ltb j 7) (component a (7 - j)) _ (w .within (7 - j))
+    (within-cond B (ltb j 16) (component a (j - 7)) (negℤ (component a (23 - j))) (w .within (j - 7)) (rw (natAbs-neg (component a (23 - j))) (w .within (23 - j)))))
+
+pub within-folded : {B : ℕ} {s : List ℤ} (k : ℕ) → Within B s → Within (B + B) (folded s k)
+unfolding folded
+within-folded {B} {s} k w =
+    within-table (B + B) 8 (λ i. component s (7 + i - k) +ℤ component s (7 + i + k)) (λ i h. le-trans (natAbs-add (component s (7 + i - k)) (component s (7 + i + k))) (add-le-add (w .within (7 + i - k)) (w .within (7 + i + k))))
+
+pub within-times : {B : ℕ} {a : List ℤ} (k : ℕ) → k < 8 → Eight a → Within B a → Within (B + B) (mul (cosine (pos k)) a)
+within-times {B} {a} k h e w = subst (λ b. Within (B + B) b) (folded-spread k h e) (within-folded k (within-spread w))
+
+-- ---- the code's own sums and differences of two components, read from the bits of an i32
+
+module _ (op : ℤ → ℤ → ℤ) (small : (x y : ℤ) → natAbs (op x y) ≤ natAbs x + natAbs y) {a b : List ℤ} (p : Within headroom a) (q : Within headroom b) (i j : ℕ) where
+  pub parts-fit : SFits w32 (op (toZ w32 (ofZ w32 (component a i))) (toZ w32 (ofZ w32 (component b j))))
+  parts-fit = op-fits op small w32 {B = headroom} (lit< tt) (component a i) (component b j) (p .within i) (q .within j)
+
+  pub parts-kept : {r : ℤ} → r ≡ op (toZ w32 (ofZ w32 (component a i))) (toZ w32 (ofZ w32 (component b j))) → toZ w32 (ofZ w32 r) ≡ op (component a i) (component b j)
+  parts-kept e = op-kept op small w32 {B = headroom} (lit< tt) (component a i) (component b j) (p .within i) (q .within j) e

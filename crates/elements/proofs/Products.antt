@@ -1,0 +1,68 @@
+-- Multiplying by c_k through the spread components.
+-- Assumes nothing.
+use mathlib.Core.Path.{_≡_, sym, ap₂, _∙_}
+use mathlib.Core.Bool.{Bool}
+use mathlib.Core.List.{List}
+use Prim.Native.Nat.{ℕ, _+_, _-_, _≤_, _<_}
+use native.Mathlib.Omega.{arith}
+use lib.Dec.{T, ltb}
+use lib.IntN.{ℤ, pos, _+ℤ_, negℤ}
+use borrow.Author.Tests.{lt-ltb, le-ltb}
+use Rattle.integers.proofs.Tables.{is-table, getD-table}
+use Rattle.integers.proofs.Tests.{every, every-at, eqZ, eqZ→≡}
+use Rattle.ring.specs.Element.{component, only, quarter, half, turn, cosine, rule, product, mul}
+use Rattle.ring.proofs.Components.{Eight, eight-cosine}
+use Rattle.ring.proofs.Forms.{Form, component-form, form-component, form-plus, form-neg, form-cond, form-same}
+use Rattle.ring.proofs.Product.{mul-right}
+use Rattle.ring.proofs.Ring.{eight-mul}
+use Rattle.elements.specs.Spread.{continued, spread, folded}
+
+-- ---- the continued components, by the three stretches of the index
+
+pub continued-low : (u : List ℤ) (j : ℕ) → j < 7 → continued u j ≡ component u (7 - j)
+unfolding continued
+continued-low u j h = rw (lt-ltb j 7 h)
+
+pub continued-middle : (u : List ℤ) (j : ℕ) → 7 ≤ j → j < 16 → continued u j ≡ component u (j - 7)
+unfolding continued
+continued-middle u j h k = rw (le-ltb j 7 h, lt-ltb j 16 k)
+
+pub continued-high : (u : List ℤ) (j : ℕ) → 16 ≤ j → continued u j ≡ negℤ (component u (23 - j))
+unfolding continued
+continued-high u j h = rw (le-ltb j 7 (omega arith), le-ltb j 16 h)
+
+-- ---- the product
+
+-- component i of the product, as a sum of two
+entry : ℕ → ℕ → List ℤ → ℤ
+entry k i a = continued a (7 + i - k) +ℤ continued a (7 + i + k)
+
+form-continued : (j : ℕ) → Form (λ a. continued a j)
+unfolding continued
+form-continued j =
+    form-cond (ltb j 7) (form-component (7 - j)) (form-cond (ltb j 16) (form-component (j - 7)) (form-neg (form-component (23 - j))))
+
+product-at : ℕ → ℕ → ℕ → Bool
+product-at k i m = eqZ (component (mul (cosine (pos k)) (only (pos 1) m)) i) (entry k i (only (pos 1) m))
+
+product-test : T (every 8 (λ k. every 8 (λ i. every 8 (product-at k i))))
+unfolding product-at entry continued quarter half turn cosine rule product mul
+product-test = tt
+
+product-entry : (k i : ℕ) → k < 8 → i < 8 → (a : List ℤ) → Eight a → component (mul (cosine (pos k)) a) i ≡ entry k i a
+unfolding product-at entry
+product-entry k i h l =
+    form-same (λ a. component (mul (cosine (pos k)) a) i) (entry k i) (component-form (mul (cosine (pos k))) (mul-right (cosine (pos k))) i)
+    (form-plus (form-continued (7 + i - k)) (form-continued (7 + i + k)))
+    (λ m b. eqZ→≡ _ _ (every-at 8 (product-at k i) (every-at 8 (λ i. every 8 (product-at k i)) (every-at 8 (λ k. every 8 (λ i. every 8 (product-at k i))) product-test k h) i l) m b))
+
+pub component-spread : (a : List ℤ) (j : ℕ) → j < 22 → component (spread a) j ≡ continued a j
+unfolding spread
+component-spread a j h = getD-table 22 (continued a) (pos 0) j h
+
+-- the code's product is the ring's
+pub folded-spread : (k : ℕ) → k < 8 → {a : List ℤ} → Eight a → folded (spread a) k ≡ mul (cosine (pos k)) a
+unfolding folded entry
+folded-spread k h {a} e =
+    sym (is-table (pos 0) (mul (cosine (pos k)) a) 8 _ (eight-mul (eight-cosine (pos k)) e .eight)
+    (λ i l. product-entry k i h l a e ∙ sym (ap₂ _+ℤ_ (component-spread a (7 + i - k) (omega arith)) (component-spread a (7 + i + k) (omega arith)))))

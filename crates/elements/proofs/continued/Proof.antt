@@ -1,0 +1,87 @@
+use mathlib.Core.Path.{_≡_, refl, sym, ap, _∙_}
+use mathlib.Core.List.{List}
+use Prim.Native.Nat.{ℕ, _+_, _-_, _*_, _≤_, _<_, zero-le}
+use native.Mathlib.Omega.{arith}
+use lib.Dec.{lit<}
+use lib.IntN.{pos, _-ℤ_, negℤ, +ℤ-idl}
+use lib.ListN.{length, List·getD-eq-default}
+use mir.Syntax.{w32}
+use mir.Facts.{toZ-ofZ}
+use Rattle.integers.proofs.Magnitude.{natAbs-sub}
+use Rattle.integers.proofs.Signed.{op-fits, op-kept}
+use Rattle.ring.specs.Element.{component}
+use Rattle.elements.specs.Bound.{headroom}
+use Rattle.elements.proofs.Products.{continued-low, continued-middle, continued-high}
+use borrow.Author.Needs.{needs}
+use Rattle.elements.proofs.continued.Statement.{statement}
+use Rattle.elements.proofs.continued.Tie as tie
+use Rattle.elements.proofs.continued.Reads as reads
+use Rattle.elements.proofs.continued.Lts as lts
+use Rattle.integers.proofs.minus.Reads as minus-reads
+
+sub-result : tie.Need-sub-result
+sub-result c = search needs
+
+mul-result : tie.Need-mul-result
+mul-result c = search needs
+
+array-copy-out-result : tie.Need-array-copy-out-result
+array-copy-out-result c = search needs
+
+returns : tie.Need-returns
+returns c = toZ-ofZ (search needs) ∙ sym (continued-low _ _ (c .before .if1 .taken))
+
+mul-result-2 : tie.Need-mul-result-2
+mul-result-2 c = search needs
+
+array-copy-out-result-2 : tie.Need-array-copy-out-result-2
+array-copy-out-result-2 c = search needs
+
+returns-2 : tie.Need-returns-2
+returns-2 c = toZ-ofZ (search needs) ∙ sym (continued-middle _ _ (omega arith) (omega arith))
+
+returns-3 : tie.Need-returns-3
+returns-3 c = 
+    let start = c .before .before .before .before in
+    let e : start .args .j ≡ 15 = c .if3 .taken in
+    let l : length (start .args .a .parts) ≡ 8 = search needs in
+    sym (continued-middle (start .args .a .parts) (start .args .j) (omega arith) (omega arith) ∙ List·getD-eq-default (start .args .a .parts) (pos 0) {n = start .args .j - 7} (omega arith))
+
+sub-minus : tie.Need-sub-minus
+sub-minus c = search needs
+
+mul-minus : tie.Need-mul-minus
+mul-minus c = search needs
+
+array-copy-out-minus : tie.Need-array-copy-out-minus
+array-copy-out-minus c = search needs
+
+minus-requires : tie.Need-minus-requires
+minus-requires c κs = 
+    let start = c .before .before .before .before .before in
+    op-fits _-ℤ_ natAbs-sub w32 {B = headroom} (lit< tt) (pos 0) (component (start .args .a .parts) (23 - start .args .j)) zero-le (start .pre .0 .within (23 - start .args .j))
+
+returns-4 : tie.Need-returns-4
+returns-4 c = 
+    let start = c .before .before .before .before .before .before in
+    let u = component (start .args .a .parts) (23 - start .args .j) in
+    op-kept _-ℤ_ natAbs-sub w32 {B = headroom} (lit< tt) (pos 0) u zero-le (start .pre .0 .within (23 - start .args .j)) (c .minus .ensures)
+    ∙ +ℤ-idl (negℤ u) ∙ sym (continued-high (start .args .a .parts) (start .args .j) (omega arith))
+
+pub continued-spec : {M : Type 1} → statement M
+continued-spec =
+    tie.close
+    (tie.spec
+    sub-result
+    mul-result
+    array-copy-out-result
+    returns
+    mul-result-2
+    array-copy-out-result-2
+    returns-2
+    returns-3
+    sub-minus
+    mul-minus
+    array-copy-out-minus
+    minus-requires
+    returns-4)

@@ -1,0 +1,61 @@
+use mathlib.Core.Path.{_≡_, refl, sym, ap, _∙_}
+use mathlib.Core.List.{List}
+use Prim.Native.Nat.{ℕ, _+_, _-_, _*_, _≤_, _<_}
+use native.Mathlib.Omega.{arith}
+use lib.IntN.{pos}
+use mir.Facts.{toZ-ofZ}
+use Rattle.integers.proofs.Tables.{Filled, filled-none, filled-more, filled-all}
+use Rattle.elements.specs.Spread.{continued, spread}
+use borrow.Author.Needs.{needs}
+use Rattle.elements.proofs.spread_of.Statement.{statement}
+use Rattle.elements.proofs.spread_of.Tie as tie
+use Rattle.elements.proofs.spread_of.Reads as reads
+use Rattle.elements.proofs.spread_of.Lts as lts
+use Rattle.elements.proofs.continued.Reads as continued-reads
+
+abbrev Inv-loop : tie.InvT-loop
+Inv-loop a s₀ j₀ s j = Filled (pos 0) 22 (continued (a .parts)) j s
+
+abbrev μ-loop : tie.MeasureT-loop
+μ-loop a s₀ j₀ s j = 22 - j
+
+loop-holds : tie.Need-loop-holds Inv-loop μ-loop
+loop-holds c = filled-none refl
+
+continued-requires : tie.Need-continued-requires Inv-loop μ-loop
+continued-requires c κs = search needs
+
+mul-s : tie.Need-mul-s Inv-loop μ-loop
+mul-s c = omega arith
+
+array-set-from-s : tie.Need-array-set-from-s Inv-loop μ-loop
+array-set-from-s c = omega arith
+
+add-j : tie.Need-add-j Inv-loop μ-loop
+add-j c = omega arith
+
+loop-less : tie.Need-loop-less Inv-loop μ-loop
+loop-less c = omega arith
+
+loop-again : tie.Need-loop-again Inv-loop μ-loop
+loop-again c = 
+    filled-more (omega arith) (c .before .before .loop .inv) (toZ-ofZ (search needs) ∙ c .continued .ensures)
+
+returns : tie.Need-returns Inv-loop μ-loop
+unfolding spread
+returns c = filled-all (omega arith) (c .before .loop .inv)
+
+pub spread-of-spec : {M : Type 1} → statement M
+spread-of-spec =
+    tie.close
+    (tie.spec
+    Inv-loop
+    μ-loop
+    loop-holds
+    continued-requires
+    mul-s
+    array-set-from-s
+    add-j
+    loop-less
+    loop-again
+    returns)

@@ -1,0 +1,88 @@
+use mathlib.Core.Path.{_≡_, refl, sym, ap, _∙_}
+use mathlib.Core.List.{List}
+use Prim.Native.Nat.{ℕ, _+_, _-_, _*_, _≤_, _<_}
+use native.Mathlib.Omega.{arith}
+use lib.IntN.{pos, _-ℤ_}
+use Rattle.integers.proofs.Magnitude.{natAbs-sub}
+use Rattle.integers.proofs.Tables.{Filled, filled-none, filled-more, filled-all}
+use Rattle.ring.specs.Element.{component}
+use Rattle.ring.proofs.Components.{Eight}
+use Rattle.elements.proofs.Bounds.{parts-fit, parts-kept}
+use Rattle.elements.proofs.Sums.{subtract-table}
+use borrow.Author.Needs.{needs}
+use Rattle.elements.proofs.subtract.Statement.{statement}
+use Rattle.elements.proofs.subtract.Tie as tie
+use Rattle.elements.proofs.subtract.Reads as reads
+use Rattle.elements.proofs.subtract.Lts as lts
+use Rattle.integers.proofs.minus.Reads as minus-reads
+
+abbrev Inv-loop : tie.InvT-loop
+Inv-loop x y r₀ i₀ r i = Filled (pos 0) 8 (λ k. component x k -ℤ component y k) i r
+
+abbrev μ-loop : tie.MeasureT-loop
+μ-loop x y r₀ i₀ r i = 8 - i
+
+loop-holds : tie.Need-loop-holds Inv-loop μ-loop
+loop-holds c = filled-none refl
+
+mul-minus : tie.Need-mul-minus Inv-loop μ-loop
+mul-minus c = omega arith
+
+array-copy-out-minus : tie.Need-array-copy-out-minus Inv-loop μ-loop
+array-copy-out-minus c = omega arith
+
+mul-minus-2 : tie.Need-mul-minus-2 Inv-loop μ-loop
+mul-minus-2 c = omega arith
+
+array-copy-out-minus-2 : tie.Need-array-copy-out-minus-2 Inv-loop μ-loop
+array-copy-out-minus-2 c = omega arith
+
+minus-requires : tie.Need-minus-requires Inv-loop μ-loop
+minus-requires c κs = 
+    let start = c .before .before .before .before .before .before in
+    let i = c .before .before .before .loop .i in
+    parts-fit _-ℤ_ natAbs-sub (start .pre .0) (start .pre .1) i i
+
+mul-r : tie.Need-mul-r Inv-loop μ-loop
+mul-r c = omega arith
+
+array-set-from-r : tie.Need-array-set-from-r Inv-loop μ-loop
+array-set-from-r c = omega arith
+
+add-i : tie.Need-add-i Inv-loop μ-loop
+add-i c = omega arith
+
+loop-less : tie.Need-loop-less Inv-loop μ-loop
+loop-less c = omega arith
+
+loop-again : tie.Need-loop-again Inv-loop μ-loop
+loop-again c = 
+    let start = c .before .before .before .before .before .before .before in
+    let i = c .before .before .before .before .loop .i in
+    filled-more (omega arith) (c .before .before .before .before .loop .inv) (parts-kept _-ℤ_ natAbs-sub (start .pre .0) (start .pre .1) i i (c .minus .ensures))
+
+returns : tie.Need-returns Inv-loop μ-loop
+returns c = 
+    let args = c .before .before .before .before .args in
+    let p : Eight (args .a .parts) = record { eight = search needs } in
+    let q : Eight (args .b .parts) = record { eight = search needs } in
+    filled-all (omega arith) (c .before .loop .inv) ∙ sym (subtract-table p q)
+
+pub subtract-spec : {M : Type 1} → statement M
+subtract-spec =
+    tie.close
+    (tie.spec
+    Inv-loop
+    μ-loop
+    loop-holds
+    mul-minus
+    array-copy-out-minus
+    mul-minus-2
+    array-copy-out-minus-2
+    minus-requires
+    mul-r
+    array-set-from-r
+    add-i
+    loop-less
+    loop-again
+    returns)

@@ -1,0 +1,30 @@
+use mathlib.Core.Path.{_≡_, refl, sym, ap, _∙_}
+use mathlib.Core.List.{List}
+use Prim.Native.Nat.{ℕ, _+_, _-_, _*_, _≤_, _<_}
+use native.Mathlib.Omega.{arith}
+use Rattle.ring.proofs.Components.{Eight}
+use Rattle.elements.specs.Spread.{folded}
+use Rattle.elements.proofs.Bounds.{within-spread}
+use Rattle.elements.proofs.Products.{folded-spread}
+use borrow.Author.Needs.{needs}
+use Rattle.elements.proofs.times.Statement.{statement}
+use Rattle.elements.proofs.times.Tie as tie
+use Rattle.elements.proofs.times.Reads as reads
+use Rattle.elements.proofs.times.Lts as lts
+use Rattle.elements.proofs.product.Reads as product-reads
+use Rattle.elements.proofs.spread_of.Reads as spread-of-reads
+
+spread-of-requires : tie.Need-spread-of-requires
+spread-of-requires c κs = search needs
+
+product-requires : tie.Need-product-requires
+product-requires c κs = (rw (c .spread-of .ensures) (within-spread (c .before .pre .0)), c .before .pre .1)
+
+returns : tie.Need-returns
+returns c = 
+    let start = c .before .before in
+    let e : Eight (start .args .a .parts) = record { eight = search needs } in
+    c .product .ensures ∙ ap (λ s. folded s (start .args .k)) (c .before .spread-of .ensures) ∙ folded-spread (start .args .k) (start .pre .1) e
+
+pub times-spec : {M : Type 1} → statement M
+times-spec = tie.close (tie.spec spread-of-requires product-requires returns)

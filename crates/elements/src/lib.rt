@@ -1,0 +1,116 @@
+// Elements in code: u_0 + u_1·c_1 + ... + u_7·c_7 as a record of its eight components, which every ring operation takes and
+// returns by value.
+//
+// A component is an i32. Each operation asks that no component of what it takes is above `headroom` in magnitude, so that no sum
+// of two can wrap. A sum or a difference at most adds the bounds of its operands, and a product with c_k doubles its operand's
+// (proofs/Bounds.antt): a caller that knows a bound at the start knows one at each step.
+ghost use mathlib.Core.Path.{_≡_};
+ghost use Prim.Native.Nat.{_<_};
+ghost use lib.IntN.{pos};
+ghost use Rattle.ring.specs.Element as ring;
+ghost use Rattle.elements.specs.Bound.{Within, headroom};
+ghost use Rattle.elements.specs.Spread as spec;
+use integers::minus;
+use integers::plus;
+
+// The eight components, u_0 first.
+pub struct Element {
+    pub parts: [i32; 8],
+}
+
+// a + b
+pub fn add(a: Element, b: Element) -> Element
+    requires { ⌜ Within headroom (a .parts) ⌝ }
+    requires { ⌜ Within headroom (b .parts) ⌝ }
+    ensures { λ r. ⌜ r .parts ≡ ring.add (a .parts) (b .parts) ⌝ }
+{
+    let x = a.parts;
+    let y = b.parts;
+    let mut r = [0i32; 8];
+    let mut i = 0;
+    while i < 8 {
+        r[i] = plus(x[i], y[i]);
+        i += 1;
+    }
+    Element { parts: r }
+}
+
+// a - b
+pub fn subtract(a: Element, b: Element) -> Element
+    requires { ⌜ Within headroom (a .parts) ⌝ }
+    requires { ⌜ Within headroom (b .parts) ⌝ }
+    ensures { λ r. ⌜ r .parts ≡ ring.subtract (a .parts) (b .parts) ⌝ }
+{
+    let x = a.parts;
+    let y = b.parts;
+    let mut r = [0i32; 8];
+    let mut i = 0;
+    while i < 8 {
+        r[i] = minus(x[i], y[i]);
+        i += 1;
+    }
+    Element { parts: r }
+}
+
+// The components u_(-7) to u_14, continued as the cosines are (specs/Spread.antt). They are laid out once for all the products of
+// one element.
+pub struct Spread {
+    pub at: [i32; 22],
+}
+
+// u_(j-7)
+fn continued(a: Element, j: usize) -> i32
+    requires { ⌜ Within headroom (a .parts) ⌝ }
+    requires { ⌜ j < 22 ⌝ }
+    ensures { λ r. ⌜ r ≡ spec.continued (a .parts) j ⌝ }
+{
+    let u = a.parts;
+    if j < 7 {
+        return u[7 - j];
+    }
+    if j < 15 {
+        return u[j - 7];
+    }
+    if j == 15 {
+        return 0;
+    }
+    minus(0, u[23 - j])
+}
+
+pub fn spread_of(a: Element) -> Spread
+    requires { ⌜ Within headroom (a .parts) ⌝ }
+    ensures { λ r. ⌜ r .at ≡ spec.spread (a .parts) ⌝ }
+{
+    let mut s = [0i32; 22];
+    let mut j = 0;
+    while j < 22 {
+        s[j] = continued(a, j);
+        j += 1;
+    }
+    Spread { at: s }
+}
+
+// c_k times the element that was spread: component i is u_(i-k) + u_(i+k).
+pub fn product(s: Spread, k: usize) -> Element
+    requires { ⌜ Within headroom (s .at) ⌝ }
+    requires { ⌜ k < 8 ⌝ }
+    ensures { λ r. ⌜ r .parts ≡ spec.folded (s .at) k ⌝ }
+{
+    let u = s.at;
+    let mut r = [0i32; 8];
+    let mut i = 0;
+    while i < 8 {
+        r[i] = plus(u[7 + i - k], u[7 + i + k]);
+        i += 1;
+    }
+    Element { parts: r }
+}
+
+// c_k × a, for k from 0 to 7
+pub fn times(a: Element, k: usize) -> Element
+    requires { ⌜ Within headroom (a .parts) ⌝ }
+    requires { ⌜ k < 8 ⌝ }
+    ensures { λ r. ⌜ r .parts ≡ ring.mul (ring.cosine (pos k)) (a .parts) ⌝ }
+{
+    product(spread_of(a), k)
+}
