@@ -11,7 +11,7 @@ use lib.IntN.{ℤ, pos, natAbs}
 use Rattle.integers.specs.Sum.{sum}
 use Rattle.integers.proofs.Sums.{naturals, sum-cong, sum-map, sum-le}
 use Rattle.integers.proofs.Tests.{every, every-at}
-use Rattle.ring.specs.Element.{add, scale, only, number, quarter, half, turn, cosine, rule, product, mul, magnitude}
+use Rattle.ring.specs.Element.{add, scale, only, number, quarter, half, turn, cosine, by-rule, basis-product, mul, magnitude}
 use Rattle.ring.proofs.Magnitude.{magnitude-scale, magnitude-sum, magnitude-linear}
 use Rattle.ring.proofs.Components.{Eight}
 use Rattle.ring.proofs.Product.{mul-left}
@@ -25,14 +25,14 @@ factor-at : ℕ → Bool
 factor-at k = leb (sum 0 _+_ 8 (λ n. magnitude (factor k n))) 8
 
 factor-test : T (every 8 factor-at)
-unfolding sum factor-at factor quarter half turn cosine
+unfolding sum factor-at factor cosine
 factor-test = tt
 
 times-factor-at : ℕ → ℕ → Bool
 times-factor-at k j = leb (sum 0 _+_ 8 (λ n. magnitude (mul (only (pos 1) j) (factor k n)))) 16
 
 times-factor-test : T (every 8 (λ k. every 8 (times-factor-at k)))
-unfolding sum times-factor-at factor quarter half turn cosine rule product mul
+unfolding sum times-factor-at factor cosine basis-product mul
 times-factor-test = tt
 
 -- the eight products of an element with one frequency's factors

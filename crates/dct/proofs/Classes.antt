@@ -22,7 +22,7 @@ class-at u v i j =
     every 8 (λ k. among l k || eqZ (component e k) (pos 0))
 
 class-test : T (every 8 (λ u. every 8 (λ v. every 8 (λ i. every 8 (class-at u v i)))))
-unfolding class-at components-at angle-product quarter half turn cosine
+unfolding class-at components-at angle-product cosine
 class-test = tt
 
 or-false : (a b : Bool) → T (a || b) → a ≡ false → T b
@@ -44,9 +44,11 @@ zero-component x u v k hu hv hk e = sum-zero (λ i. sum [] add 8 (entry i)) (λ 
   where
     entry : ℕ → ℕ → List ℤ
     entry i j = scale (x i j) (mul (factor u i) (factor v j))
+
     none : (i j : ℕ) → i < 8 → j < 8 → component (entry i j) k ≡ pos 0
     none i j hi hj =
         component-scale (x i j) (mul (factor u i) (factor v j)) k ∙ ap (λ z. x i j *ℤ z) (product-zero u v i j k hu hv hi hj hk e) ∙ *ℤ-zero (x i j)
+
     sum-zero : (f : ℕ → List ℤ) → ((i : ℕ) → i < 8 → component (f i) k ≡ pos 0) → component (sum [] add 8 f) k ≡ pos 0
     sum-zero f h =
         sum-map [] add (pos 0) _+ℤ_ (λ a. component a k) refl (λ a b. component-add a b k) 8 f

@@ -29,6 +29,7 @@ last-dimension d x p =
   where
     term : ℕ → ℕ → List ℤ
     term n q = mul (scale (x (q * 8 + n)) (factors d (p / 8) q)) (factor (p % 8) n)
+
     one : (q n : ℕ) → n < 8 → scale (x (q * 8 + n)) (factors (suc d) p (q * 8 + n)) ≡ term n q
     one q n l = ap (scale (x (q * 8 + n))) (factors-place d p q n l) ∙ sym (mul-left (factor (p % 8) n) .multiples (x (q * 8 + n)) (factors d (p / 8) q))
 
@@ -51,9 +52,11 @@ columns-then-rows x u v = sum-swap [] add elements 8 8 term ∙ sum-cong [] add 
   where
     term : ℕ → ℕ → List ℤ
     term i j = scale (x i j) (mul (factor u i) (factor v j))
+
     entry : (i j : ℕ) → mul (mul (number (x i j)) (factor u i)) (factor v j) ≡ term i j
     entry i j =
         ap (λ a. mul a (factor v j)) (mul-number (x i j) (factor u i) (eight-factor u i)) ∙ mul-left (factor v j) .multiples (x i j) (factor u i)
+
     column : (j : ℕ) → mul (sum [] add 8 (λ i. mul (number (x i j)) (factor u i))) (factor v j) ≡ sum [] add 8 (λ i. term i j)
     column j =
         linear-sum (λ a. mul a (factor v j)) (mul-left (factor v j)) 8 (λ i. mul (number (x i j)) (factor u i))
@@ -81,13 +84,16 @@ sixteen-times-dct x u v =
   where
     both : List ℤ
     both = mul (twice-C u) (twice-C v)
+
     cosine-at : ℕ → ℕ → List ℤ
     cosine-at k n = cosine (pos ((2 * n + 1) * k))
+
     fourfold : (i j : ℕ) → mul both (mul (cosine-at u i) (cosine-at v j)) ≡ scale (pos 4) (mul (factor u i) (factor v j))
     fourfold i j =
         mul-swap (twice-C u) (twice-C v) (cosine-at u i) (cosine-at v j) ∙ ap₂ mul (twice-factor u i) (twice-factor v j)
         ∙ mul-left (scale (pos 2) (factor v j)) .multiples (pos 2) (factor u i) ∙ ap (scale (pos 2)) (mul-right (factor u i) .multiples (pos 2) (factor v j))
         ∙ scale-scale (pos 2) (pos 2) (mul (factor u i) (factor v j))
+
     entry : (i j : ℕ) → scale (pos 4) (scale (x i j) (mul (factor u i) (factor v j))) ≡ mul both (scale (x i j) (mul (cosine-at u i) (cosine-at v j)))
     entry i j =
         linear-scale (pos 4) .multiples (x i j) (mul (factor u i) (factor v j)) ∙ ap (scale (x i j)) (sym (fourfold i j))

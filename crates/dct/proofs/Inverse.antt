@@ -29,6 +29,7 @@ back-grams d x r =
   where
     n : ℕ
     n = 8 ^ d
+
     spread : (p : ℕ) → mul (sum [] add n (λ q. scale (x q) (factors d p q))) (factors d p r) ≡ sum [] add n (λ q. scale (x q) (mul (factors d p q) (factors d p r)))
     spread p =
         linear-sum (λ a. mul a (factors d p r)) (mul-left (factors d p r)) n (λ q. scale (x q) (factors d p q))

@@ -33,7 +33,7 @@ gram-at : ℕ → ℕ → Bool
 gram-at n m = eqList (sum [] add 8 (λ k. angle-product (angle k n) (angle k m))) (number (delta 1 n m))
 
 gram-test : T (every 8 (λ n. every 8 (gram-at n)))
-unfolding sum gram-at delta angle-product quarter half turn cosine
+unfolding sum gram-at delta angle-product cosine
 gram-test = tt
 
 gram-is : (n m : ℕ) → n < 8 → m < 8 → gram n m ≡ number (delta 1 n m)
@@ -56,10 +56,13 @@ grams-suc d q r =
   where
     n : ℕ
     n = q % 8
+
     m : ℕ
     m = r % 8
+
     both : ℕ → List ℤ
     both p = mul (factors d p (q / 8)) (factors d p (r / 8))
+
     inner : (p : ℕ) → sum [] add 8 (λ k. mul (factors (suc d) (p * 8 + k) q) (factors (suc d) (p * 8 + k) r)) ≡ mul (both p) (gram n m)
     inner p =
         sum-cong [] add 8 _ (λ k. mul (both p) (mul (factor k n) (factor k m))) (λ k h. ap₂ mul (factors-frequency d p k q h) (factors-frequency d p k r h) ∙ mul-swap (factors d p (q / 8)) (factor k n) (factors d p (r / 8)) (factor k m))

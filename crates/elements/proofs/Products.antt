@@ -10,7 +10,7 @@ use lib.IntN.{ℤ, pos, _+ℤ_, negℤ}
 use borrow.Author.Tests.{lt-ltb, le-ltb}
 use Rattle.integers.proofs.Tables.{is-table, getD-table}
 use Rattle.integers.proofs.Tests.{every, every-at, eqZ, eqZ→≡}
-use Rattle.ring.specs.Element.{component, only, quarter, half, turn, cosine, rule, product, mul}
+use Rattle.ring.specs.Element.{component, only, quarter, half, turn, cosine, by-rule, basis-product, mul}
 use Rattle.ring.proofs.Components.{Eight, eight-cosine}
 use Rattle.ring.proofs.Forms.{Form, component-form, form-component, form-plus, form-neg, form-cond, form-same}
 use Rattle.ring.proofs.Product.{mul-right}
@@ -31,9 +31,9 @@ pub continued-high : (u : List ℤ) (j : ℕ) → 16 ≤ j → continued u j ≡
 unfolding continued
 continued-high u j h = rw (le-ltb j 7 (omega arith), le-ltb j 16 h)
 
--- ---- the product
+-- ---- the basis-product
 
--- component i of the product, as a sum of two
+-- component i of the basis-product, as a sum of two
 entry : ℕ → ℕ → List ℤ → ℤ
 entry k i a = continued a (7 + i - k) +ℤ continued a (7 + i + k)
 
@@ -46,7 +46,7 @@ product-at : ℕ → ℕ → ℕ → Bool
 product-at k i m = eqZ (component (mul (cosine (pos k)) (only (pos 1) m)) i) (entry k i (only (pos 1) m))
 
 product-test : T (every 8 (λ k. every 8 (λ i. every 8 (product-at k i))))
-unfolding product-at entry continued quarter half turn cosine rule product mul
+unfolding product-at entry continued cosine basis-product mul
 product-test = tt
 
 product-entry : (k i : ℕ) → k < 8 → i < 8 → (a : List ℤ) → Eight a → component (mul (cosine (pos k)) a) i ≡ entry k i a
@@ -60,7 +60,7 @@ pub component-spread : (a : List ℤ) (j : ℕ) → j < 22 → component (spread
 unfolding spread
 component-spread a j h = getD-table 22 (continued a) (pos 0) j h
 
--- the code's product is the ring's
+-- the code's basis-product is the ring's
 pub folded-spread : (k : ℕ) → k < 8 → {a : List ℤ} → Eight a → folded (spread a) k ≡ mul (cosine (pos k)) a
 unfolding folded entry
 folded-spread k h {a} e =

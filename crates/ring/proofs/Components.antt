@@ -42,7 +42,6 @@ pub eight-only : (s : ℤ) (k : ℕ) → Eight (only s k)
 eight-only s k = record { eight = refl }
 
 turn-test : T (every 32 (λ r. eqb (length (turn r)) 8))
-unfolding quarter half turn
 turn-test = tt
 
 pub eight-cosine : (m : ℤ) → Eight (cosine m)

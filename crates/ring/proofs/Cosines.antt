@@ -11,7 +11,7 @@ use lib.Dec.{T}
 use lib.IntN.{ℤ, pos, negsuc, _+ℤ_, _-ℤ_, negℤ, +ℤ-comm, +ℤ-assoc, +ℤ-negℤ-cancel, +ℤ-invr, negℤ-+ℤ, negℤ-negℤ}
 use Rattle.integers.proofs.Integer.{negℤ--ℤ, -ℤ--ℤ}
 use Rattle.integers.proofs.Tests.{every, every-at, eqList, eqList→≡}
-use Rattle.ring.specs.Element.{add, scale, subtract, number, quarter, half, turn, cosine, rule, product, mul}
+use Rattle.ring.specs.Element.{add, scale, subtract, number, quarter, half, turn, cosine, by-rule, basis-product, mul}
 use Rattle.ring.proofs.Linear.{add-comm, scale-scale, scale-one}
 use Rattle.ring.proofs.Components.{eight-cosine}
 use Rattle.ring.proofs.Ring.{negative-of, mul-number, scale-zero}
@@ -23,7 +23,7 @@ holds-at : ℕ → ℕ → Bool
 holds-at e s = eqList (mul (turn ((e + s) % 32)) (turn s)) (add (turn (((e + s) % 32 + s) % 32)) (turn e))
 
 holds-test : T (every 32 (λ e. every 32 (holds-at e)))
-unfolding holds-at quarter half turn cosine rule product mul
+unfolding holds-at cosine basis-product mul
 holds-test = tt
 
 -- with i - j not negative
@@ -42,7 +42,7 @@ holds-ordered a b h =
     let e : a ≡ a - b + b = omega arith in
     rw e (holds-natural (a - b) b ∙ ap (λ (z : ℤ). add (cosine (pos (a - b + b + b))) (cosine z)) (sym (+ℤ-negℤ-cancel (pos (a - b)) (pos b))))
 
--- the rule is the same with i and j changed about, and with the sign of i changed
+-- the by-rule is the same with i and j changed about, and with the sign of i changed
 holds-swapped : (i j : ℤ) → Rule i j → Rule j i
 unfolding Rule
 holds-swapped i j r =
@@ -75,11 +75,11 @@ cosine-product i j = always i j
 -- ---- the other rules
 
 pub cosine-0 : cosine (pos 0) ≡ number (pos 2)
-unfolding quarter half turn cosine
+unfolding cosine
 cosine-0 = refl
 
 pub cosine-8 : cosine (pos 8) ≡ number (pos 0)
-unfolding quarter half turn cosine
+unfolding cosine
 cosine-8 = refl
 
 -- from c_8 × c_(8-m) = c_(16-m) + c_m
@@ -88,12 +88,14 @@ cosine-16 m = negative-of (cosine (pos 16 -ℤ m)) (cosine m) (eight-cosine (pos
   where
     k : ℤ
     k = pos 8 -ℤ m
+
     by-rule : mul (cosine (pos 8)) (cosine k) ≡ add (cosine (pos 16 -ℤ m)) (cosine m)
     by-rule = cosine-product (pos 8) k ∙ ap₂ add (ap cosine (sym (+ℤ-assoc (pos 8) (pos 8) (negℤ m)))) (ap cosine (-ℤ--ℤ (pos 8) m))
+
     none : mul (cosine (pos 8)) (cosine k) ≡ number (pos 0)
     none = ap (λ a. mul a (cosine k)) cosine-8 ∙ mul-number (pos 0) (cosine k) (eight-cosine k) ∙ scale-zero (cosine k) (eight-cosine k)
 
--- twice the rule above
+-- twice the by-rule above
 pub cosine-32 : (m : ℤ) → cosine (pos 32 +ℤ m) ≡ cosine m
 cosine-32 m =
     ap cosine (+ℤ-assoc (pos 16) (pos 16) m) ∙ again (pos 16 +ℤ m) ∙ ap (scale (negsuc 0)) (again m)

@@ -21,24 +21,27 @@ pub record Form (φ : List ℤ → ℤ) : Type 0 where
 -- a component of a linear map's value is a form
 pub component-form : (L : List ℤ → List ℤ) → Linear L → (k : ℕ) → Form (λ a. component (L a) k)
 component-form L l k = record {
-    nil = ap (λ a. component a k) (l .nil);
-    sums = λ a b. ap (λ c. component c k) (l .sums a b) ∙ component-add (L a) (L b) k;
-    multiples = λ s a. ap (λ c. component c k) (l .multiples s a) ∙ component-scale s (L a) k }
+  nil = ap (λ a. component a k) (l .nil);
+  sums = λ a b. ap (λ c. component c k) (l .sums a b) ∙ component-add (L a) (L b) k;
+  multiples = λ s a. ap (λ c. component c k) (l .multiples s a) ∙ component-scale s (L a) k;
+}
 
 pub form-component : (k : ℕ) → Form (λ a. component a k)
 form-component k = component-form (λ a. a) (record { nil = refl; sums = λ a b. refl; multiples = λ s a. refl }) k
 
 pub form-plus : {φ ψ : List ℤ → ℤ} → Form φ → Form ψ → Form (λ a. φ a +ℤ ψ a)
 form-plus {φ} {ψ} p q = record {
-    nil = ap₂ _+ℤ_ (p .nil) (q .nil);
-    sums = λ a b. ap₂ _+ℤ_ (p .sums a b) (q .sums a b) ∙ swap (pos 0) _+ℤ_ integers (φ a) (φ b) (ψ a) (ψ b);
-    multiples = λ s a. ap₂ _+ℤ_ (p .multiples s a) (q .multiples s a) ∙ sym (*ℤ-+ℤ s (φ a) (ψ a)) }
+  nil = ap₂ _+ℤ_ (p .nil) (q .nil);
+  sums = λ a b. ap₂ _+ℤ_ (p .sums a b) (q .sums a b) ∙ swap (pos 0) _+ℤ_ integers (φ a) (φ b) (ψ a) (ψ b);
+  multiples = λ s a. ap₂ _+ℤ_ (p .multiples s a) (q .multiples s a) ∙ sym (*ℤ-+ℤ s (φ a) (ψ a));
+}
 
 pub form-neg : {φ : List ℤ → ℤ} → Form φ → Form (λ a. negℤ (φ a))
 form-neg {φ} p = record {
-    nil = ap negℤ (p .nil);
-    sums = λ a b. ap negℤ (p .sums a b) ∙ negℤ-+ℤ (φ a) (φ b);
-    multiples = λ s a. ap negℤ (p .multiples s a) ∙ sym (*ℤ-negℤ s (φ a)) }
+  nil = ap negℤ (p .nil);
+  sums = λ a b. ap negℤ (p .sums a b) ∙ negℤ-+ℤ (φ a) (φ b);
+  multiples = λ s a. ap negℤ (p .multiples s a) ∙ sym (*ℤ-negℤ s (φ a));
+}
 
 pub form-cond : (t : Bool) {φ ψ : List ℤ → ℤ} → Form φ → Form ψ → Form (λ a. cond t (φ a) (ψ a))
 form-cond true p q = p

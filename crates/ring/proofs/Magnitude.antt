@@ -44,11 +44,11 @@ module _ (n : ℕ) (C : ℕ) where
       let head : ℕ → ℕ = λ i. magnitude (f i zero) in
       let rest : ℕ → ℕ = λ i. magnitude (combine (λ k. f i (suc k)) a) in
       let split : sum 0 _+_ n (λ i. magnitude (combine (f i) (x ∷ a))) ≤ sum 0 _+_ n (λ i. natAbs x * head i + rest i) =
-          sum-le n _ _ (λ i b. rw (magnitude-scale x (f i zero)) at (magnitude-add (scale x (f i zero)) (combine (λ k. f i (suc k)) a))) in
+      sum-le n _ _ (λ i b. rw (magnitude-scale x (f i zero)) at (magnitude-add (scale x (f i zero)) (combine (λ k. f i (suc k)) a))) in
       let first : natAbs x * sum 0 _+_ n head ≤ natAbs x * C = mul-le-mul-left (natAbs x) (h zero (omega arith)) in
       let others : sum 0 _+_ n rest ≤ C * magnitude a = combinations (λ i k. f i (suc k)) a (λ k b. h (suc k) (omega arith)) in
       let linear : sum 0 _+_ n (λ i. natAbs x * head i + rest i) ≡ natAbs x * sum 0 _+_ n head + sum 0 _+_ n rest =
-          sum-plus 0 _+_ naturals n (λ i. natAbs x * head i) rest ∙ ap (λ (t : ℕ). t + sum 0 _+_ n rest) (sym (sum-map 0 _+_ 0 _+_ (λ t. natAbs x * t) (mul-zero (natAbs x)) (mul-add (natAbs x)) n head)) in
+      sum-plus 0 _+_ naturals n (λ i. natAbs x * head i) rest ∙ ap (λ (t : ℕ). t + sum 0 _+_ n rest) (sym (sum-map 0 _+_ 0 _+_ (λ t. natAbs x * t) (mul-zero (natAbs x)) (mul-add (natAbs x)) n head)) in
       omega arith
 
   pub magnitude-linear : (L : ℕ → List ℤ → List ℤ) → ((i : ℕ) → Linear (L i))

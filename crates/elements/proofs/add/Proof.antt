@@ -38,7 +38,7 @@ array-copy-out-plus-2 : tie.Need-array-copy-out-plus-2 Inv-loop μ-loop
 array-copy-out-plus-2 c = omega arith
 
 plus-requires : tie.Need-plus-requires Inv-loop μ-loop
-plus-requires c κs = 
+plus-requires c κs =
     let start = c .before .before .before .before .before .before in
     let i = c .before .before .before .loop .i in
     parts-fit _+ℤ_ natAbs-add (start .pre .0) (start .pre .1) i i
@@ -56,13 +56,13 @@ loop-less : tie.Need-loop-less Inv-loop μ-loop
 loop-less c = omega arith
 
 loop-again : tie.Need-loop-again Inv-loop μ-loop
-loop-again c = 
+loop-again c =
     let start = c .before .before .before .before .before .before .before in
     let i = c .before .before .before .before .loop .i in
     filled-more (omega arith) (c .before .before .before .before .loop .inv) (parts-kept _+ℤ_ natAbs-add (start .pre .0) (start .pre .1) i i (c .plus .ensures))
 
 returns : tie.Need-returns Inv-loop μ-loop
-returns c = 
+returns c =
     let args = c .before .before .before .before .args in
     let p : Eight (args .a .parts) = record { eight = search needs } in
     let q : Eight (args .b .parts) = record { eight = search needs } in

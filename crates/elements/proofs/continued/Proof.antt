@@ -41,7 +41,7 @@ returns-2 : tie.Need-returns-2
 returns-2 c = toZ-ofZ (search needs) ∙ sym (continued-middle _ _ (omega arith) (omega arith))
 
 returns-3 : tie.Need-returns-3
-returns-3 c = 
+returns-3 c =
     let start = c .before .before .before .before in
     let e : start .args .j ≡ 15 = c .if3 .taken in
     let l : length (start .args .a .parts) ≡ 8 = search needs in
@@ -57,12 +57,12 @@ array-copy-out-minus : tie.Need-array-copy-out-minus
 array-copy-out-minus c = search needs
 
 minus-requires : tie.Need-minus-requires
-minus-requires c κs = 
+minus-requires c κs =
     let start = c .before .before .before .before .before in
     op-fits _-ℤ_ natAbs-sub w32 {B = headroom} (lit< tt) (pos 0) (component (start .args .a .parts) (23 - start .args .j)) zero-le (start .pre .0 .within (23 - start .args .j))
 
 returns-4 : tie.Need-returns-4
-returns-4 c = 
+returns-4 c =
     let start = c .before .before .before .before .before .before in
     let u = component (start .args .a .parts) (23 - start .args .j) in
     op-kept _-ℤ_ natAbs-sub w32 {B = headroom} (lit< tt) (pos 0) u zero-le (start .pre .0 .within (23 - start .args .j)) (c .minus .ensures)

@@ -49,7 +49,7 @@ array-copy-out-plus-2 : tie.Need-array-copy-out-plus-2 Inv-loop μ-loop
 array-copy-out-plus-2 c = omega arith
 
 plus-requires : tie.Need-plus-requires Inv-loop μ-loop
-plus-requires c κs = 
+plus-requires c κs =
     let start = c .before .before .before .before .before in
     let i = c .before .before .before .loop .i in
     let k = start .args .k in
@@ -68,7 +68,7 @@ loop-less : tie.Need-loop-less Inv-loop μ-loop
 loop-less c = omega arith
 
 loop-again : tie.Need-loop-again Inv-loop μ-loop
-loop-again c = 
+loop-again c =
     let start = c .before .before .before .before .before .before in
     let i = c .before .before .before .before .loop .i in
     let k = start .args .k in

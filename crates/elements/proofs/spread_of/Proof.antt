@@ -38,7 +38,7 @@ loop-less : tie.Need-loop-less Inv-loop μ-loop
 loop-less c = omega arith
 
 loop-again : tie.Need-loop-again Inv-loop μ-loop
-loop-again c = 
+loop-again c =
     filled-more (omega arith) (c .before .before .loop .inv) (toZ-ofZ (search needs) ∙ c .continued .ensures)
 
 returns : tie.Need-returns Inv-loop μ-loop

@@ -21,7 +21,7 @@ product-requires : tie.Need-product-requires
 product-requires c κs = (rw (c .spread-of .ensures) (within-spread (c .before .pre .0)), c .before .pre .1)
 
 returns : tie.Need-returns
-returns c = 
+returns c =
     let start = c .before .before in
     let e : Eight (start .args .a .parts) = record { eight = search needs } in
     c .product .ensures ∙ ap (λ s. folded s (start .args .k)) (c .before .spread-of .ensures) ∙ folded-spread (start .args .k) (start .pre .1) e
