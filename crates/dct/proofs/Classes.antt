@@ -3,50 +3,52 @@
 use mathlib.Core.Path.{_≡_, refl, ap, subst, _∙_}
 use mathlib.Core.Bool.{Bool, false, _||_}
 use mathlib.Core.List.{List, []}
-use Prim.Native.Nat.{ℕ, zero, suc, _<_}
+use Prim.Native.Nat.{ℕ, _<_}
 use lib.Dec.{T}
 use lib.IntN.{ℤ, pos, _+ℤ_, _*ℤ_, *ℤ-zero}
 use Rattle.integers.specs.Sum.{sum}
 use Rattle.integers.proofs.Sums.{integers, sum-cong, sum-map, sum-none}
-use Rattle.integers.proofs.Tests.{every, every-at, eqZ, eqZ→≡}
-use Rattle.ring.specs.Element.{component, add, scale, quarter, half, turn, cosine, mul}
+use Rattle.integers.proofs.Tests.{every, every-at, every₂, every₂-at, eqZ, eqZ→≡}
+use Rattle.ring.specs.Element.{component, add, scale, cosine, mul}
 use Rattle.ring.proofs.Components.{component-add, component-scale}
-use Rattle.dct.specs.Transform.{factor, double-sum, among, components-at}
+use Rattle.dct.specs.Transform.{factor, double-sum, components-at, among}
 use Rattle.dct.proofs.Factors.{angle, angle-product, factor-product}
 
--- all components of t(u,i) × t(v,j) outside the class are 0
+-- component k of t(u,i) × t(v,j) is allowed or 0
+component-at : List ℕ → List ℤ → ℕ → Bool
+component-at l e k = among l k || eqZ (component e k) (pos 0)
+
 class-at : ℕ → ℕ → ℕ → ℕ → Bool
 class-at u v i j =
     let l = components-at u v in
     let e = angle-product (angle u i) (angle v j) in
-    every 8 (λ k. among l k || eqZ (component e k) (pos 0))
+    every 8 (component-at l e)
 
-class-test : T (every 8 (λ u. every 8 (λ v. every 8 (λ i. every 8 (class-at u v i)))))
-unfolding class-at components-at angle-product cosine
+class-test : T (every₂ 8 (λ u v. every₂ 8 (class-at u v)))
+unfolding component-at class-at components-at angle-product cosine
 class-test = tt
 
 or-false : (a b : Bool) → T (a || b) → a ≡ false → T b
 or-false a b t e = subst (λ (c : Bool). T (c || b)) e t
 
 product-zero : (u v i j k : ℕ) → u < 8 → v < 8 → i < 8 → j < 8 → k < 8 → among (components-at u v) k ≡ false → component (mul (factor u i) (factor v j)) k ≡ pos 0
-unfolding class-at
+unfolding component-at class-at
 product-zero u v i j k hu hv hi hj hk e =
-    let test-u = every-at 8 (λ u. every 8 (λ v. every 8 (λ i. every 8 (class-at u v i)))) class-test u hu in
-    let test-v = every-at 8 (λ v. every 8 (λ i. every 8 (class-at u v i))) test-u v hv in
-    let test-j = every-at 8 (class-at u v i) (every-at 8 (λ i. every 8 (class-at u v i)) test-v i hi) j hj in
+    let l = components-at u v in
     let c = angle-product (angle u i) (angle v j) in
+    let t = every₂-at 8 (class-at u v) (every₂-at 8 (λ u v. every₂ 8 (class-at u v)) class-test u v hu hv) i j hi hj in
     ap (λ a. component a k) (factor-product u i v j)
-    ∙ eqZ→≡ (component c k) (pos 0) (or-false (among (components-at u v) k) (eqZ (component c k) (pos 0)) (every-at 8 (λ k. among (components-at u v) k || eqZ (component c k) (pos 0)) test-j k hk) e)
+    ∙ eqZ→≡ _ (pos 0) (or-false (among l k) (eqZ (component c k) (pos 0)) (every-at 8 (component-at l c) t k hk) e)
 
 pub zero-component : (x : ℕ → ℕ → ℤ) (u v k : ℕ) → u < 8 → v < 8 → k < 8 → among (components-at u v) k ≡ false → component (double-sum x u v) k ≡ pos 0
 unfolding double-sum
-zero-component x u v k hu hv hk e = sum-zero (λ i. sum [] add 8 (entry i)) (λ i hi. sum-zero (entry i) (λ j hj. none i j hi hj))
+zero-component x u v k hu hv hk e = sum-zero (λ i. sum [] add 8 (term i)) (λ i hi. sum-zero (term i) (λ j hj. term-zero i j hi hj))
   where
-    entry : ℕ → ℕ → List ℤ
-    entry i j = scale (x i j) (mul (factor u i) (factor v j))
+    term : ℕ → ℕ → List ℤ
+    term i j = scale (x i j) (mul (factor u i) (factor v j))
 
-    none : (i j : ℕ) → i < 8 → j < 8 → component (entry i j) k ≡ pos 0
-    none i j hi hj =
+    term-zero : (i j : ℕ) → i < 8 → j < 8 → component (term i j) k ≡ pos 0
+    term-zero i j hi hj =
         component-scale (x i j) (mul (factor u i) (factor v j)) k ∙ ap (λ z. x i j *ℤ z) (product-zero u v i j k hu hv hi hj hk e) ∙ *ℤ-zero (x i j)
 
     sum-zero : (f : ℕ → List ℤ) → ((i : ℕ) → i < 8 → component (f i) k ≡ pos 0) → component (sum [] add 8 f) k ≡ pos 0

@@ -1,51 +1,58 @@
 -- The element in other words: one dimension at a time, 01's double sum, columns and then rows, and T.81's formula.
 -- Assumes nothing.
-use mathlib.Core.Path.{_≡_, refl, sym, ap, ap₂, _∙_}
+use mathlib.Core.Path.{_≡_, sym, ap, ap₂, _∙_}
 use mathlib.Core.List.{List, []}
 use Prim.Native.Nat.{ℕ, zero, suc, _+_, _*_, _/_, _%_, _^_, _<_}
-use native.Mathlib.Nat.{mod-eq-of-lt, mul-zero, mul-comm as ℕ-mul-comm}
+use native.Mathlib.Nat.{mod-eq-of-lt, mul-zero, mul-comm as times-comm}
 use native.Mathlib.Omega.{arith}
-use lib.IntN.{ℤ, pos, _*ℤ_}
+use lib.IntN.{ℤ, pos}
 use Rattle.integers.specs.Sum.{sum}
 use Rattle.integers.proofs.Sums.{sum-cong, sum-swap}
 use Rattle.ring.specs.Element.{add, scale, number, cosine, mul}
-use Rattle.ring.proofs.Linear.{Linear, elements, linear-sum, linear-scale, scale-scale}
-use Rattle.ring.proofs.Product.{mul-left, mul-right, mul-comm}
+use Rattle.ring.proofs.Linear.{LinearMap, elements, linear-sum, linear-scale, scale-scale}
+use Rattle.ring.proofs.Product.{mul-left, mul-right, mul-comm, mul-swap}
 use Rattle.ring.proofs.Components.{eight-cosine}
-use Rattle.ring.proofs.Ring.{mul-one, mul-number, mul-swap}
+use Rattle.ring.proofs.Ring.{mul-one, mul-number}
 use Rattle.ring.proofs.Cosines.{cosine-0}
 use Rattle.dct.specs.Transform.{factor, factors, element, double-sum, step}
 use Rattle.dct.specs.T81.{twice-C, sixty-four-S}
 use Rattle.dct.proofs.Factors.{eight-factor, factors-place, sum-digits}
 
--- the element of d + 1 dimensions: the d-dimensional elements of the eight parts, and then the 8-point step along the last dimension
+-- the element of d + 1 dimensions: the d-dimensional elements of the eight parts along the last dimension, and then a step over them
 pub last-dimension : (d : ℕ) (x : ℕ → ℤ) (p : ℕ) → element (suc d) x p ≡ step (λ n. element d (λ q. x (q * 8 + n)) (p / 8)) (p % 8)
 unfolding element step
 last-dimension d x p =
     sum-digits [] add elements d (λ q. scale (x q) (factors (suc d) p q))
-    ∙ sum-cong [] add (8 ^ d) _ _ (λ q h. sum-cong [] add 8 _ (λ n. term n q) (λ n l. one q n l))
+    ∙ sum-cong [] add (8 ^ d) _ _ (λ q h. sum-cong [] add 8 _ (λ n. term n q) (λ n l. entry q n l))
     ∙ sum-swap [] add elements (8 ^ d) 8 (λ q n. term n q)
-    ∙ sum-cong [] add 8 _ _ (λ n l. sym (linear-sum (λ a. mul a (factor (p % 8) n)) (mul-left (factor (p % 8) n)) (8 ^ d) (λ q. scale (x (q * 8 + n)) (factors d (p / 8) q))))
+    ∙ sum-cong [] add 8 _ _ (λ n l. sym (linear-sum (λ a. mul a (t n)) (mul-left (t n)) (8 ^ d) (λ q. scale (x (q * 8 + n)) (factors d (p / 8) q))))
   where
-    term : ℕ → ℕ → List ℤ
-    term n q = mul (scale (x (q * 8 + n)) (factors d (p / 8) q)) (factor (p % 8) n)
+    t : ℕ → List ℤ
+    t n = factor (p % 8) n
 
-    one : (q n : ℕ) → n < 8 → scale (x (q * 8 + n)) (factors (suc d) p (q * 8 + n)) ≡ term n q
-    one q n l = ap (scale (x (q * 8 + n))) (factors-place d p q n l) ∙ sym (mul-left (factor (p % 8) n) .multiples (x (q * 8 + n)) (factors d (p / 8) q))
+    term : ℕ → ℕ → List ℤ
+    term n q = mul (scale (x (q * 8 + n)) (factors d (p / 8) q)) (t n)
+
+    entry : (q n : ℕ) → n < 8 → scale (x (q * 8 + n)) (factors (suc d) p (q * 8 + n)) ≡ term n q
+    entry q n l = ap (scale (x (q * 8 + n))) (factors-place d p q n l) ∙ sym (mul-left (t n) .multiples (x (q * 8 + n)) (factors d (p / 8) q))
 
 -- ---- two dimensions
 
-pub factors-one : (u i : ℕ) → u < 8 → i < 8 → factors 1 u i ≡ factor u i
-unfolding factors
-factors-one u i h k = rw (mod-eq-of-lt h, mod-eq-of-lt k) (mul-one (factor u i) (eight-factor u i))
-
 two-factors : (u v i j : ℕ) → u < 8 → v < 8 → i < 8 → j < 8 → factors 2 (8 * u + v) (i * 8 + j) ≡ mul (factor u i) (factor v j)
+unfolding factors
 two-factors u v i j h k l m =
     let p : (8 * u + v) / 8 ≡ u = omega arith in
     let q : (8 * u + v) % 8 ≡ v = omega arith in
-    factors-place 1 (8 * u + v) i j m ∙ rw (p, q, factors-one u i h l)
+    factors-place 1 (8 * u + v) i j m ∙ rw (p, q, mod-eq-of-lt h, mod-eq-of-lt l, mul-one (eight-factor u i))
 
--- columns, then rows: the step down each column j, and then the step across
+-- 01's double sum is the element of two dimensions, with sample (i,j) at index 8i+j and the element of (u,v) at number 8u+v
+pub element-double-sum : (x : ℕ → ℤ) (u v : ℕ) → u < 8 → v < 8 → element 2 x (8 * u + v) ≡ double-sum (λ i j. x (8 * i + j)) u v
+unfolding element double-sum
+element-double-sum x u v h k =
+    sum-digits [] add elements 1 (λ q. scale (x q) (factors 2 (8 * u + v) q))
+    ∙ sum-cong [] add 8 _ _ (λ i l. sum-cong [] add 8 _ _ (λ j m. ap₂ scale (ap x (ap (λ (a : ℕ). a + j) (times-comm i 8))) (two-factors u v i j h k l m)))
+
+-- columns, then rows: a step down each column j, and then a step across
 pub columns-then-rows : (x : ℕ → ℕ → ℤ) (u v : ℕ) → double-sum x u v ≡ step (λ j. step (λ i. number (x i j)) u) v
 unfolding double-sum step
 columns-then-rows x u v = sum-swap [] add elements 8 8 term ∙ sum-cong [] add 8 _ _ (λ j h. sym (column j))
@@ -54,23 +61,24 @@ columns-then-rows x u v = sum-swap [] add elements 8 8 term ∙ sum-cong [] add 
     term i j = scale (x i j) (mul (factor u i) (factor v j))
 
     entry : (i j : ℕ) → mul (mul (number (x i j)) (factor u i)) (factor v j) ≡ term i j
-    entry i j =
-        ap (λ a. mul a (factor v j)) (mul-number (x i j) (factor u i) (eight-factor u i)) ∙ mul-left (factor v j) .multiples (x i j) (factor u i)
+    entry i j = ap (λ a. mul a (factor v j)) (mul-number (x i j) (eight-factor u i)) ∙ mul-left (factor v j) .multiples (x i j) (factor u i)
 
     column : (j : ℕ) → mul (sum [] add 8 (λ i. mul (number (x i j)) (factor u i))) (factor v j) ≡ sum [] add 8 (λ i. term i j)
     column j =
         linear-sum (λ a. mul a (factor v j)) (mul-left (factor v j)) 8 (λ i. mul (number (x i j)) (factor u i))
         ∙ sum-cong [] add 8 _ _ (λ i h. entry i j)
 
+-- ---- T.81
+
 -- 2·C(k) × 2·cos((2n+1)·k·π/16) is twice the factor
 twice-factor : (k n : ℕ) → mul (twice-C k) (cosine (pos ((2 * n + 1) * k))) ≡ scale (pos 2) (factor k n)
 unfolding twice-C factor
 twice-factor zero n =
     ap (λ (a : ℕ). mul (cosine (pos 4)) (cosine (pos a))) (mul-zero (2 * n + 1)) ∙ ap (mul (cosine (pos 4))) cosine-0
-    ∙ mul-comm (cosine (pos 4)) (number (pos 2)) ∙ mul-number (pos 2) (cosine (pos 4)) (eight-cosine (pos 4))
-twice-factor (suc k) n = mul-number (pos 2) (cosine (pos ((2 * n + 1) * suc k))) (eight-cosine (pos ((2 * n + 1) * suc k)))
+    ∙ mul-comm (cosine (pos 4)) (number (pos 2)) ∙ mul-number (pos 2) (eight-cosine (pos 4))
+twice-factor (suc k) n = mul-number (pos 2) (eight-cosine (pos ((2 * n + 1) * suc k)))
 
-linear-double-sum : (L : List ℤ → List ℤ) → Linear L → (f : ℕ → ℕ → List ℤ)
+linear-double-sum : (L : List ℤ → List ℤ) → LinearMap L → (f : ℕ → ℕ → List ℤ)
     → L (sum [] add 8 (λ i. sum [] add 8 (f i))) ≡ sum [] add 8 (λ i. sum [] add 8 (λ j. L (f i j)))
 linear-double-sum L l f = linear-sum L l 8 (λ i. sum [] add 8 (f i)) ∙ sum-cong [] add 8 _ _ (λ i h. linear-sum L l 8 (f i))
 
@@ -78,30 +86,29 @@ linear-double-sum L l f = linear-sum L l 8 (λ i. sum [] add 8 (f i)) ∙ sum-co
 pub sixteen-times-dct : (x : ℕ → ℕ → ℤ) (u v : ℕ) → scale (pos 4) (double-sum x u v) ≡ sixty-four-S x u v
 unfolding double-sum sixty-four-S
 sixteen-times-dct x u v =
-    linear-double-sum (scale (pos 4)) (linear-scale (pos 4)) (λ i j. scale (x i j) (mul (factor u i) (factor v j)))
+    linear-double-sum (scale (pos 4)) (linear-scale (pos 4)) (λ i j. scale (x i j) (factor-pair i j))
     ∙ sum-cong [] add 8 _ _ (λ i h. sum-cong [] add 8 _ _ (λ j k. entry i j))
-    ∙ sym (linear-double-sum (mul both) (mul-right both) (λ i j. scale (x i j) (mul (cosine-at u i) (cosine-at v j))))
+    ∙ sym (linear-double-sum (mul C) (mul-right C) (λ i j. scale (x i j) (cosine-pair i j)))
   where
-    both : List ℤ
-    both = mul (twice-C u) (twice-C v)
+    C : List ℤ
+    C = mul (twice-C u) (twice-C v)
 
     cosine-at : ℕ → ℕ → List ℤ
     cosine-at k n = cosine (pos ((2 * n + 1) * k))
 
-    fourfold : (i j : ℕ) → mul both (mul (cosine-at u i) (cosine-at v j)) ≡ scale (pos 4) (mul (factor u i) (factor v j))
+    cosine-pair : ℕ → ℕ → List ℤ
+    cosine-pair i j = mul (cosine-at u i) (cosine-at v j)
+
+    factor-pair : ℕ → ℕ → List ℤ
+    factor-pair i j = mul (factor u i) (factor v j)
+
+    fourfold : (i j : ℕ) → mul C (cosine-pair i j) ≡ scale (pos 4) (factor-pair i j)
     fourfold i j =
         mul-swap (twice-C u) (twice-C v) (cosine-at u i) (cosine-at v j) ∙ ap₂ mul (twice-factor u i) (twice-factor v j)
         ∙ mul-left (scale (pos 2) (factor v j)) .multiples (pos 2) (factor u i) ∙ ap (scale (pos 2)) (mul-right (factor u i) .multiples (pos 2) (factor v j))
-        ∙ scale-scale (pos 2) (pos 2) (mul (factor u i) (factor v j))
+        ∙ scale-scale (pos 2) (pos 2) (factor-pair i j)
 
-    entry : (i j : ℕ) → scale (pos 4) (scale (x i j) (mul (factor u i) (factor v j))) ≡ mul both (scale (x i j) (mul (cosine-at u i) (cosine-at v j)))
+    entry : (i j : ℕ) → scale (pos 4) (scale (x i j) (factor-pair i j)) ≡ mul C (scale (x i j) (cosine-pair i j))
     entry i j =
-        linear-scale (pos 4) .multiples (x i j) (mul (factor u i) (factor v j)) ∙ ap (scale (x i j)) (sym (fourfold i j))
-        ∙ sym (mul-right both .multiples (x i j) (mul (cosine-at u i) (cosine-at v j)))
-
--- 01's double sum is the element of two dimensions at index 8u+v, with sample (i,j) at index 8i+j
-pub element-double-sum : (x : ℕ → ℤ) (u v : ℕ) → u < 8 → v < 8 → element 2 x (8 * u + v) ≡ double-sum (λ i j. x (8 * i + j)) u v
-unfolding element double-sum
-element-double-sum x u v h k =
-    sum-digits [] add elements 1 (λ q. scale (x q) (factors 2 (8 * u + v) q))
-    ∙ sum-cong [] add 8 _ _ (λ i l. sum-cong [] add 8 _ _ (λ j m. ap₂ scale (ap x (ap (λ (a : ℕ). a + j) (ℕ-mul-comm i 8))) (two-factors u v i j h k l m)))
+        linear-scale (pos 4) .multiples (x i j) (factor-pair i j) ∙ ap (scale (x i j)) (sym (fourfold i j))
+        ∙ sym (mul-right C .multiples (x i j) (cosine-pair i j))

@@ -1,4 +1,4 @@
--- The factors: as cosines, by the digits of their indices, and with all eight components.
+-- The factors: as cosines, with all of their components, and by the digits of their indices.
 -- Assumes nothing.
 use mathlib.Core.Path.{_≡_, refl}
 use mathlib.Core.List.{List}
@@ -9,9 +9,8 @@ use lib.IntN.{ℤ, pos, _+ℤ_, _-ℤ_}
 use Rattle.integers.specs.Sum.{sum}
 use Rattle.integers.proofs.Sums.{CommutativeMonoid, sum-blocks}
 use Rattle.ring.specs.Element.{add, cosine, mul}
+use Rattle.ring.proofs.Components.{Eight, eight-only, eight-cosine, eight-mul}
 use Rattle.ring.proofs.Cosines.{cosine-product}
-use Rattle.ring.proofs.Components.{Eight, eight-only, eight-cosine}
-use Rattle.ring.proofs.Ring.{eight-mul}
 use Rattle.dct.specs.Transform.{factor, factors}
 
 -- t(k,n) is the cosine of this many sixteenths of π
@@ -19,7 +18,7 @@ abbrev pub angle : ℕ → ℕ → ℕ
 angle zero n = 4
 angle (suc k) n = (2 * n + 1) * suc k
 
-pub factor-cosine : (k n : ℕ) → factor k n ≡ cosine (pos (angle k n))
+factor-cosine : (k n : ℕ) → factor k n ≡ cosine (pos (angle k n))
 unfolding factor
 factor-cosine zero n = refl
 factor-cosine (suc k) n = refl
@@ -32,7 +31,7 @@ unfolding factors
 eight-factors zero p q = eight-only (pos 1) 0
 eight-factors (suc d) p q = eight-mul (eight-factors d (p / 8) (q / 8)) (eight-factor (p % 8) (q % 8))
 
--- two factors, multiplied
+-- the product of two factors by their angles: a computed test of it multiplies nothing out
 unfoldable pub angle-product : ℕ → ℕ → List ℤ
 angle-product a b = add (cosine (pos a +ℤ pos b)) (cosine (pos a -ℤ pos b))
 
@@ -40,7 +39,7 @@ pub factor-product : (k n l m : ℕ) → mul (factor k n) (factor l m) ≡ angle
 unfolding angle-product
 factor-product k n l m = rw (factor-cosine k n, factor-cosine l m) (cosine-product (pos (angle k n)) (pos (angle l m)))
 
--- ---- by the last base-8 digit of an index
+-- ---- by the last digit of an index
 
 div-digit : (a b : ℕ) → b < 8 → (a * 8 + b) / 8 ≡ a
 div-digit a b h = omega arith
@@ -56,7 +55,7 @@ pub factors-place : (d p q n : ℕ) → n < 8 → factors (suc d) p (q * 8 + n) 
 unfolding factors
 factors-place d p q n h = rw (div-digit q n h, mod-digit q n h)
 
--- a sum over all indices of d + 1 dimensions goes by their first d digits and the last
+-- a sum over all indices of d + 1 dimensions goes by their first d digits, and then the last
 module _ {A : Type 0} (none : A) (plus : A → A → A) (M : CommutativeMonoid none plus) where
   pub sum-digits : (d : ℕ) (f : ℕ → A) → sum none plus (8 ^ suc d) f ≡ sum none plus (8 ^ d) (λ q. sum none plus 8 (λ n. f (q * 8 + n)))
   sum-digits d f = rw (pow-suc 8 d) (sum-blocks none plus M (8 ^ d) 8 f)

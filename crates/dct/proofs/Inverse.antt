@@ -1,8 +1,9 @@
--- The way back: the elements of a block, each times its factors, sum to 16^d times a sample; so a block is known by its elements.
+-- The way back: the elements of a block, each times its factors at one place, sum to 16^d times the sample there. So a block is known by
+-- its elements.
 -- Assumes nothing.
-use mathlib.Core.Path.{_≡_, refl, sym, ap, ap₂, _∙_}
+use mathlib.Core.Path.{_≡_, refl, sym, ap, _∙_}
 use mathlib.Core.List.{List, []}
-use Prim.Native.Nat.{ℕ, zero, suc, _*_, _^_, _<_}
+use Prim.Native.Nat.{ℕ, _^_, _<_}
 use native.Mathlib.Nat.{one-le-pow, zero-lt-suc}
 use lib.IntN.{ℤ, pos, _+ℤ_, _*ℤ_, *ℤ-comm, *ℤ-zero}
 use Rattle.integers.specs.Sum.{sum}
@@ -15,37 +16,45 @@ use Rattle.ring.proofs.Ring.{scale-number}
 use Rattle.dct.specs.Transform.{factors, element}
 use Rattle.dct.proofs.Orthogonal.{grams, delta, delta-same, delta-other, orthogonal}
 
--- the sum over all indices p of element × factors at place r
-unfoldable pub back : ℕ → (ℕ → List ℤ) → ℕ → List ℤ
-back d e r = sum [] add (8 ^ d) (λ p. mul (e p) (factors d p r))
+-- the sum over all numbers p of the element e p × its factors at place r
+unfoldable pub returned : ℕ → (ℕ → List ℤ) → ℕ → List ℤ
+returned d e r = sum [] add (8 ^ d) (λ p. mul (e p) (factors d p r))
 
--- element × factor, summed over all p, is each sample times what the factors give
-back-grams : (d : ℕ) (x : ℕ → ℤ) (r : ℕ) → back d (element d x) r ≡ sum [] add (8 ^ d) (λ q. scale (x q) (grams d q r))
-unfolding back element grams
-back-grams d x r =
-    sum-cong [] add n _ (λ p. sum [] add n (λ q. scale (x q) (mul (factors d p q) (factors d p r)))) (λ p h. spread p)
-    ∙ sum-swap [] add elements n n (λ p q. scale (x q) (mul (factors d p q) (factors d p r)))
-    ∙ sum-cong [] add n _ (λ q. scale (x q) (grams d q r)) (λ q h. sym (linear-sum (scale (x q)) (linear-scale (x q)) n (λ p. mul (factors d p q) (factors d p r))))
+-- each sample, times what the factors of its place and of place r give
+returned-samples : (d : ℕ) (x : ℕ → ℤ) (r : ℕ) → returned d (element d x) r ≡ sum [] add (8 ^ d) (λ q. scale (x q) (grams d q r))
+unfolding returned element grams
+returned-samples d x r =
+    sum-cong [] add n _ (λ p. sum [] add n (term p)) (λ p h. by-samples p) ∙ sum-swap [] add elements n n term
+    ∙ sum-cong [] add n _ _ (λ q h. sym (linear-sum (scale (x q)) (linear-scale (x q)) n (λ p. mul (factors d p q) (factors d p r))))
   where
     n : ℕ
     n = 8 ^ d
 
-    spread : (p : ℕ) → mul (sum [] add n (λ q. scale (x q) (factors d p q))) (factors d p r) ≡ sum [] add n (λ q. scale (x q) (mul (factors d p q) (factors d p r)))
-    spread p =
+    term : ℕ → ℕ → List ℤ
+    term p q = scale (x q) (mul (factors d p q) (factors d p r))
+
+    by-samples : (p : ℕ) → mul (sum [] add n (λ q. scale (x q) (factors d p q))) (factors d p r) ≡ sum [] add n (term p)
+    by-samples p =
         linear-sum (λ a. mul a (factors d p r)) (mul-left (factors d p r)) n (λ q. scale (x q) (factors d p q))
         ∙ sum-cong [] add n _ _ (λ q h. mul-left (factors d p r) .multiples (x q) (factors d p q))
 
-pub inverse : (d : ℕ) (x : ℕ → ℤ) (r : ℕ) → r < 8 ^ d → back d (element d x) r ≡ number (pos (16 ^ d) *ℤ x r)
+pub inverse : (d : ℕ) (x : ℕ → ℤ) (r : ℕ) → r < 8 ^ d → returned d (element d x) r ≡ number (pos (16 ^ d) *ℤ x r)
 inverse d x r h =
-    back-grams d x r
-    ∙ sum-cong [] add (8 ^ d) _ (λ q. number (x q *ℤ delta d q r)) (λ q k. ap (scale (x q)) (orthogonal d q r k h) ∙ scale-number (x q) (delta d q r))
-    ∙ sym (sum-map-some (pos 0) _+ℤ_ integers [] add elements number (λ a b. refl) (8 ^ d) (λ q. x q *ℤ delta d q r) (one-le-pow d 8 (zero-lt-suc 7)))
-    ∙ ap number (sum-only (pos 0) _+ℤ_ integers (8 ^ d) (λ q. x q *ℤ delta d q r) r h (λ q k n. ap (λ z. x q *ℤ z) (delta-other d q r n) ∙ *ℤ-zero (x q))
-    ∙ ap (λ z. x r *ℤ z) (delta-same d r r refl) ∙ *ℤ-comm (x r) (pos (16 ^ d)))
+    returned-samples d x r
+    ∙ sum-cong [] add (8 ^ d) _ (λ q. number (term q)) (λ q k. ap (scale (x q)) (orthogonal d q r k h) ∙ scale-number (x q) (delta d q r))
+    ∙ sym (sum-map-some (pos 0) _+ℤ_ integers [] add elements number (λ a b. refl) (8 ^ d) term (one-le-pow d 8 (zero-lt-suc 7)))
+    ∙ ap number (sum-only (pos 0) _+ℤ_ integers (8 ^ d) term r h (λ q k n. ap (λ z. x q *ℤ z) (delta-other d q r n) ∙ *ℤ-zero (x q)) ∙ at-r)
+  where
+    term : ℕ → ℤ
+    term q = x q *ℤ delta d q r
+
+    at-r : term r ≡ pos (16 ^ d) *ℤ x r
+    at-r = ap (λ z. x r *ℤ z) (delta-same d r r refl) ∙ *ℤ-comm (x r) (pos (16 ^ d))
 
 -- two blocks with the same elements are the same block
 pub unique : (d : ℕ) (x y : ℕ → ℤ) → ((p : ℕ) → p < 8 ^ d → element d x p ≡ element d y p) → (r : ℕ) → r < 8 ^ d → x r ≡ y r
-unfolding back
-unique d x y e r h =
-    let same = sum-cong [] add (8 ^ d) (λ p. mul (element d x p) (factors d p r)) (λ p. mul (element d y p) (factors d p r)) (λ p k. ap (λ a. mul a (factors d p r)) (e p k)) in
-    *ℤ-cancel (one-le-pow d 16 (zero-lt-suc 15)) (ap (λ a. component a 0) (sym (inverse d x r h) ∙ same ∙ inverse d y r h))
+unfolding returned
+unique d x y e r h = *ℤ-cancel (one-le-pow d 16 (zero-lt-suc 15)) (ap (λ a. component a 0) (sym (inverse d x r h) ∙ same ∙ inverse d y r h))
+  where
+    same : returned d (element d x) r ≡ returned d (element d y) r
+    same = sum-cong [] add (8 ^ d) _ _ (λ p k. ap (λ a. mul a (factors d p r)) (e p k))

@@ -1,4 +1,4 @@
--- The transform's laws, from the bottom up.
+-- The laws of the transform, from the bottom up.
 pub mod Factors
 pub mod Orthogonal
 pub mod Inverse

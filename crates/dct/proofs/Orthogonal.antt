@@ -1,6 +1,6 @@
 -- The factors are orthogonal: in one dimension by a computed test, in d dimensions by induction.
 -- Assumes nothing.
-use mathlib.Core.Path.{_≡_, refl, sym, ap, ap₂, _∙_}
+use mathlib.Core.Path.{_≡_, sym, ap, ap₂, _∙_}
 use mathlib.Core.Bool.{Bool, cond}
 use mathlib.Core.List.{List, []}
 use Prim.Native.Nat.{ℕ, zero, suc, _+_, _*_, _/_, _%_, _^_, _<_}
@@ -12,61 +12,19 @@ use lib.IntN.{ℤ, pos, _*ℤ_, zero-*ℤ, *ℤ-zero}
 use borrow.Author.Tests.{eq-eqb, ne-eqb}
 use Rattle.integers.specs.Sum.{sum}
 use Rattle.integers.proofs.Sums.{sum-cong}
-use Rattle.integers.proofs.Tests.{every, every-at, eqList, eqList→≡}
-use Rattle.ring.specs.Element.{add, scale, number, quarter, half, turn, cosine, mul}
+use Rattle.integers.proofs.Tests.{every₂, every₂-at, eqList, eqList→≡}
+use Rattle.ring.specs.Element.{add, number, cosine, mul}
 use Rattle.ring.proofs.Linear.{elements, linear-sum}
-use Rattle.ring.proofs.Product.{mul-left, mul-right}
+use Rattle.ring.proofs.Product.{mul-left, mul-right, mul-swap}
 use Rattle.ring.proofs.Components.{eight-only}
-use Rattle.ring.proofs.Ring.{mul-swap, mul-one, mul-number, scale-number}
+use Rattle.ring.proofs.Ring.{mul-one, mul-number, scale-number}
 use Rattle.dct.specs.Transform.{factor, factors}
 use Rattle.dct.proofs.Factors.{angle, angle-product, factor-product, factors-frequency, sum-digits}
 
--- the sum over all frequencies k of t(k,n) × t(k,m)
-gram : ℕ → ℕ → List ℤ
-gram n m = sum [] add 8 (λ k. mul (factor k n) (factor k m))
+-- ---- 16^d where q = r, and 0 otherwise
 
--- 16^d where q = r, and 0 otherwise
 unfoldable pub delta : ℕ → ℕ → ℕ → ℤ
 delta d q r = cond (eqb q r) (pos (16 ^ d)) (pos 0)
-
-gram-at : ℕ → ℕ → Bool
-gram-at n m = eqList (sum [] add 8 (λ k. angle-product (angle k n) (angle k m))) (number (delta 1 n m))
-
-gram-test : T (every 8 (λ n. every 8 (gram-at n)))
-unfolding sum gram-at delta angle-product cosine
-gram-test = tt
-
-gram-is : (n m : ℕ) → n < 8 → m < 8 → gram n m ≡ number (delta 1 n m)
-unfolding gram gram-at
-gram-is n m h k =
-    sum-cong [] add 8 (λ k. mul (factor k n) (factor k m)) (λ k. angle-product (angle k n) (angle k m)) (λ k l. factor-product k n k m)
-    ∙ eqList→≡ _ _ (every-at 8 (gram-at n) (every-at 8 (λ n. every 8 (gram-at n)) gram-test n h) m k)
-
--- the same in d dimensions: the sum over all indices p of factors p q × factors p r
-unfoldable pub grams : ℕ → ℕ → ℕ → List ℤ
-grams d q r = sum [] add (8 ^ d) (λ p. mul (factors d p q) (factors d p r))
-
--- one dimension more is one factor more
-grams-suc : (d q r : ℕ) → grams (suc d) q r ≡ mul (grams d (q / 8) (r / 8)) (gram (q % 8) (r % 8))
-unfolding grams gram
-grams-suc d q r =
-    sum-digits [] add elements d (λ p. mul (factors (suc d) p q) (factors (suc d) p r))
-    ∙ sum-cong [] add (8 ^ d) (λ p. sum [] add 8 (λ k. mul (factors (suc d) (p * 8 + k) q) (factors (suc d) (p * 8 + k) r))) (λ p. mul (both p) (gram n m)) (λ p h. inner p)
-    ∙ sym (linear-sum (λ a. mul a (gram n m)) (mul-left (gram n m)) (8 ^ d) both)
-  where
-    n : ℕ
-    n = q % 8
-
-    m : ℕ
-    m = r % 8
-
-    both : ℕ → List ℤ
-    both p = mul (factors d p (q / 8)) (factors d p (r / 8))
-
-    inner : (p : ℕ) → sum [] add 8 (λ k. mul (factors (suc d) (p * 8 + k) q) (factors (suc d) (p * 8 + k) r)) ≡ mul (both p) (gram n m)
-    inner p =
-        sum-cong [] add 8 _ (λ k. mul (both p) (mul (factor k n) (factor k m))) (λ k h. ap₂ mul (factors-frequency d p k q h) (factors-frequency d p k r h) ∙ mul-swap (factors d p (q / 8)) (factor k n) (factors d p (r / 8)) (factor k m))
-        ∙ sym (linear-sum (mul (both p)) (mul-right (both p)) 8 (λ k. mul (factor k n) (factor k m)))
 
 pub delta-same : (d q r : ℕ) → q ≡ r → delta d q r ≡ pos (16 ^ d)
 unfolding delta
@@ -79,19 +37,69 @@ delta-other d q r n = rw (ne-eqb q r n)
 delta-suc : (d q r : ℕ) → delta d (q / 8) (r / 8) *ℤ delta 1 (q % 8) (r % 8) ≡ delta (suc d) q r
 delta-suc d q r = go (ℕ-discrete (q / 8) (r / 8)) (ℕ-discrete (q % 8) (r % 8))
   where
-    go : Dec (q / 8 ≡ r / 8) → Dec (q % 8 ≡ r % 8) → delta d (q / 8) (r / 8) *ℤ delta 1 (q % 8) (r % 8) ≡ delta (suc d) q r
-    go (yes p) (yes s) = rw (delta-same d (q / 8) (r / 8) p, delta-same 1 (q % 8) (r % 8) s, delta-same (suc d) q r (omega arith), pow-suc 16 d)
-    go (yes p) (no s) = rw (delta-other 1 (q % 8) (r % 8) s, delta-other (suc d) q r (λ e. s (ap (λ (n : ℕ). n % 8) e))) (*ℤ-zero (delta d (q / 8) (r / 8)))
-    go (no p) s = rw (delta-other d (q / 8) (r / 8) p, delta-other (suc d) q r (λ e. p (ap (λ (n : ℕ). n / 8) e))) (zero-*ℤ (delta 1 (q % 8) (r % 8)))
+    first : ℤ
+    first = delta d (q / 8) (r / 8)
+
+    last : ℤ
+    last = delta 1 (q % 8) (r % 8)
+
+    go : Dec (q / 8 ≡ r / 8) → Dec (q % 8 ≡ r % 8) → first *ℤ last ≡ delta (suc d) q r
+    go (yes p) (yes s) =
+        rw (delta-same d (q / 8) (r / 8) p, delta-same 1 (q % 8) (r % 8) s, delta-same (suc d) q r (omega arith), pow-suc 16 d)
+    go (yes p) (no s) = rw (delta-other 1 (q % 8) (r % 8) s, delta-other (suc d) q r (λ e. s (ap (λ (n : ℕ). n % 8) e))) (*ℤ-zero first)
+    go (no p) s = rw (delta-other d (q / 8) (r / 8) p, delta-other (suc d) q r (λ e. p (ap (λ (n : ℕ). n / 8) e))) (zero-*ℤ last)
+
+-- ---- one dimension
+
+-- the sum over all frequencies k of t(k,n) × t(k,m)
+gram : ℕ → ℕ → List ℤ
+gram n m = sum [] add 8 (λ k. mul (factor k n) (factor k m))
+
+gram-at : ℕ → ℕ → Bool
+gram-at n m = eqList (sum [] add 8 (λ k. angle-product (angle k n) (angle k m))) (number (delta 1 n m))
+
+gram-test : T (every₂ 8 gram-at)
+unfolding sum gram-at delta angle-product cosine
+gram-test = tt
+
+gram-is : (n m : ℕ) → n < 8 → m < 8 → gram n m ≡ number (delta 1 n m)
+unfolding gram gram-at
+gram-is n m h k = sum-cong [] add 8 _ _ (λ k l. factor-product k n k m) ∙ eqList→≡ _ _ (every₂-at 8 gram-at gram-test n m h k)
+
+-- ---- d dimensions
+
+-- the sum over all numbers p of factors p q × factors p r
+unfoldable pub grams : ℕ → ℕ → ℕ → List ℤ
+grams d q r = sum [] add (8 ^ d) (λ p. mul (factors d p q) (factors d p r))
+
+-- one dimension more is one factor more
+module _ (d q r : ℕ) where
+  both : ℕ → List ℤ
+  both p = mul (factors d p (q / 8)) (factors d p (r / 8))
+
+  last-digit : (p : ℕ) → sum [] add 8 (λ k. mul (factors (suc d) (p * 8 + k) q) (factors (suc d) (p * 8 + k) r)) ≡ mul (both p) (gram (q % 8) (r % 8))
+  unfolding both gram
+  last-digit p =
+      sum-cong [] add 8 _ (λ k. mul (both p) (mul (factor k (q % 8)) (factor k (r % 8))))
+      (λ k h. ap₂ mul (factors-frequency d p k q h) (factors-frequency d p k r h) ∙ mul-swap (factors d p (q / 8)) (factor k (q % 8)) (factors d p (r / 8)) (factor k (r % 8)))
+      ∙ sym (linear-sum (mul (both p)) (mul-right (both p)) 8 (λ k. mul (factor k (q % 8)) (factor k (r % 8))))
+
+  grams-suc : grams (suc d) q r ≡ mul (grams d (q / 8) (r / 8)) (gram (q % 8) (r % 8))
+  unfolding grams both
+  grams-suc =
+      let g = gram (q % 8) (r % 8) in
+      sum-digits [] add elements d (λ p. mul (factors (suc d) p q) (factors (suc d) p r))
+      ∙ sum-cong [] add (8 ^ d) _ (λ p. mul (both p) g) (λ p h. last-digit p)
+      ∙ sym (linear-sum (λ a. mul a g) (mul-left g) (8 ^ d) both)
 
 pub orthogonal : (d q r : ℕ) → q < 8 ^ d → r < 8 ^ d → grams d q r ≡ number (delta d q r)
 unfolding sum grams factors
-orthogonal zero q r h k = mul-one (number (pos 1)) (eight-only (pos 1) 0) ∙ sym (ap number (delta-same 0 q r (omega arith)))
+orthogonal zero q r h k = mul-one (eight-only (pos 1) 0) ∙ sym (ap number (delta-same 0 q r (omega arith)))
 orthogonal (suc d) q r h k =
+    let last = delta 1 (q % 8) (r % 8) in
     grams-suc d q r
-    ∙ ap₂ mul (orthogonal d (q / 8) (r / 8) (digits h) (digits k)) (gram-is (q % 8) (r % 8) (omega arith) (omega arith))
-    ∙ mul-number (delta d (q / 8) (r / 8)) (number (delta 1 (q % 8) (r % 8))) (eight-only (delta 1 (q % 8) (r % 8)) 0)
-    ∙ scale-number (delta d (q / 8) (r / 8)) (delta 1 (q % 8) (r % 8)) ∙ ap number (delta-suc d q r)
+    ∙ ap₂ mul (orthogonal d (q / 8) (r / 8) (first-digits h) (first-digits k)) (gram-is (q % 8) (r % 8) (omega arith) (omega arith))
+    ∙ mul-number (delta d (q / 8) (r / 8)) (eight-only last 0) ∙ scale-number (delta d (q / 8) (r / 8)) last ∙ ap number (delta-suc d q r)
   where
-    digits : {n : ℕ} → n < 8 ^ suc d → n / 8 < 8 ^ d
-    digits {n} l = let l′ : n < 8 ^ d * 8 = rw (pow-suc 8 d) at l in omega arith
+    first-digits : {n : ℕ} → n < 8 ^ suc d → n / 8 < 8 ^ d
+    first-digits {n} l = let l′ : n < 8 ^ d * 8 = rw (pow-suc 8 d) at l in omega arith

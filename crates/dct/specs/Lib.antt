@@ -1,2 +1,3 @@
-pub mod Transform
+pub mod Limits
 pub mod T81
+pub mod Transform

@@ -1,11 +1,11 @@
 -- The exact cosine transform (01, "Elements"), for blocks of any number of dimensions.
--- A block of d dimensions has 8^d samples, x 0 to x (8^d - 1). The base-8 digits of a sample's index are its places along the dimensions,
--- and those of an element's index its frequencies: in two dimensions sample (i,j) is x (8i+j), and element (u,v) stands at 8u+v.
+-- A block of d dimensions has 8^d samples, x 0 to x (8^d - 1). The base-8 digits of a sample's index are its places along the
+-- dimensions, those of an element's index its frequencies: in two dimensions sample (i,j) is x (8i+j), and element (u,v) is number 8u+v.
 use mathlib.Core.Bool.{Bool, false, cond, _&&_, _||_}
 use mathlib.Core.List.{List, [], _∷_}
-use Prim.Native.Nat.{ℕ, zero, suc, _+_, _*_, _/_, _%_, _^_}
+use Prim.Native.Nat.{ℕ, zero, suc, _+_, _*_, _/_, _%_, _^_, _≤_, _<_}
 use lib.Dec.{eqb}
-use lib.IntN.{ℤ, pos}
+use lib.IntN.{ℤ, pos, natAbs}
 use Rattle.integers.specs.Sum.{sum}
 use Rattle.ring.specs.Element.{add, scale, number, cosine, mul}
 
@@ -19,7 +19,7 @@ unfoldable pub factors : ℕ → ℕ → ℕ → List ℤ
 factors zero p q = number (pos 1)
 factors (suc d) p q = mul (factors d (p / 8) (q / 8)) (factor (p % 8) (q % 8))
 
--- the exact element of block x at index p
+-- the exact element of the block x at number p: the sum over all samples of sample × factors
 unfoldable pub element : ℕ → (ℕ → ℤ) → ℕ → List ℤ
 element d x p = sum [] add (8 ^ d) (λ q. scale (x q) (factors d p q))
 
@@ -27,24 +27,24 @@ element d x p = sum [] add (8 ^ d) (λ q. scale (x q) (factors d p q))
 unfoldable pub double-sum : (ℕ → ℕ → ℤ) → ℕ → ℕ → List ℤ
 double-sum x u v = sum [] add 8 (λ i. sum [] add 8 (λ j. scale (x i j) (mul (factor u i) (factor v j))))
 
--- the 8-point step as a plain sum: from the elements r 0 to r 7 of one row, the one of frequency k
+-- the 8-point step as a plain sum: the element of frequency k that the elements r 0 to r 7 of one row give
 unfoldable pub step : (ℕ → List ℤ) → ℕ → List ℤ
 step r k = sum [] add 8 (λ n. mul (r n) (factor k n))
 
--- ---- which components may be non-zero at (u,v), by rising index (01, "Consequences to be shown")
+-- no sample of a block of d dimensions has a magnitude above S
+abbrev pub InRange : ℕ → ℕ → (ℕ → ℤ) → Type 0
+InRange d S x = (q : ℕ) → q < 8 ^ d → natAbs (x q) ≤ S
+
+-- ---- which components of the element at (u,v) may be non-zero (01, "Consequences to be shown")
 
 abbrev odd : ℕ → Bool
 odd k = eqb (k % 2) 1
 
--- 2 and 6
+-- of the even frequencies, 2 and 6; the others are 0 and 4
 abbrev two-or-six : ℕ → Bool
 two-or-six k = eqb (k % 4) 2
 
--- k stands in the list
-abbrev pub among : List ℕ → ℕ → Bool
-among [] k = false
-among (a ∷ l) k = eqb a k || among l k
-
+-- their indices, rising
 unfoldable pub components-at : ℕ → ℕ → List ℕ
 components-at u v =
     cond (odd u && odd v) (0 ∷ 2 ∷ 4 ∷ 6 ∷ [])
@@ -52,3 +52,8 @@ components-at u v =
     (cond (two-or-six u && two-or-six v) (0 ∷ 4 ∷ [])
     (cond (two-or-six u || two-or-six v) (2 ∷ 6 ∷ [])
     (0 ∷ []))))
+
+-- k stands in the list
+abbrev pub among : List ℕ → ℕ → Bool
+among [] k = false
+among (a ∷ l) k = eqb a k || among l k

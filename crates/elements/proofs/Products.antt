@@ -9,12 +9,12 @@ use lib.Dec.{T, ltb}
 use lib.IntN.{ℤ, pos, _+ℤ_, negℤ}
 use borrow.Author.Tests.{lt-ltb, le-ltb}
 use Rattle.integers.proofs.Tables.{is-table, getD-table}
-use Rattle.integers.proofs.Tests.{every, every-at, eqZ, eqZ→≡}
-use Rattle.ring.specs.Element.{component, only, quarter, half, turn, cosine, by-rule, basis-product, mul}
-use Rattle.ring.proofs.Components.{Eight, eight-cosine}
-use Rattle.ring.proofs.Forms.{Form, component-form, form-component, form-plus, form-neg, form-cond, form-same}
+use Rattle.integers.proofs.Tests.{every₃, every₃-at, eqZ, eqZ→≡}
+use Rattle.ring.specs.Element.{component, only, cosine, basis-product, mul}
+use Rattle.ring.proofs.Linear.{LinearForm, linear-self}
 use Rattle.ring.proofs.Product.{mul-right}
-use Rattle.ring.proofs.Ring.{eight-mul}
+use Rattle.ring.proofs.Components.{Eight, eight-cosine, eight-mul, form-component, linear-same}
+use Rattle.ring.proofs.Forms.{form-plus, form-neg, form-cond}
 use Rattle.elements.specs.Spread.{continued, spread, folded}
 
 -- ---- the continued components, by the three stretches of the index
@@ -31,38 +31,39 @@ pub continued-high : (u : List ℤ) (j : ℕ) → 16 ≤ j → continued u j ≡
 unfolding continued
 continued-high u j h = rw (le-ltb j 7 (omega arith), le-ltb j 16 h)
 
--- ---- the basis-product
+-- ---- the product: both sides are linear in the element, and a test compares them at 1 and at c_1 to c_7
 
--- component i of the basis-product, as a sum of two
+-- component i of the product, as a sum of two
 entry : ℕ → ℕ → List ℤ → ℤ
 entry k i a = continued a (7 + i - k) +ℤ continued a (7 + i + k)
 
-form-continued : (j : ℕ) → Form (λ a. continued a j)
+form-continued : (j : ℕ) → LinearForm (λ a. continued a j)
 unfolding continued
-form-continued j =
-    form-cond (ltb j 7) (form-component (7 - j)) (form-cond (ltb j 16) (form-component (j - 7)) (form-neg (form-component (23 - j))))
+form-continued j = form-cond (ltb j 7) (at (7 - j)) (form-cond (ltb j 16) (at (j - 7)) (form-neg (at (23 - j))))
+  where
+    at : (k : ℕ) → LinearForm (λ a. component a k)
+    at k = form-component (λ a. a) linear-self k
 
-product-at : ℕ → ℕ → ℕ → Bool
-product-at k i m = eqZ (component (mul (cosine (pos k)) (only (pos 1) m)) i) (entry k i (only (pos 1) m))
+entry-at : ℕ → ℕ → ℕ → Bool
+entry-at k i m = eqZ (component (mul (cosine (pos k)) (only (pos 1) m)) i) (entry k i (only (pos 1) m))
 
-product-test : T (every 8 (λ k. every 8 (λ i. every 8 (product-at k i))))
-unfolding product-at entry continued cosine basis-product mul
-product-test = tt
+entry-test : T (every₃ 8 entry-at)
+unfolding entry-at entry continued cosine basis-product mul
+entry-test = tt
 
-product-entry : (k i : ℕ) → k < 8 → i < 8 → (a : List ℤ) → Eight a → component (mul (cosine (pos k)) a) i ≡ entry k i a
-unfolding product-at entry
-product-entry k i h l =
-    form-same (λ a. component (mul (cosine (pos k)) a) i) (entry k i) (component-form (mul (cosine (pos k))) (mul-right (cosine (pos k))) i)
-    (form-plus (form-continued (7 + i - k)) (form-continued (7 + i + k)))
-    (λ m b. eqZ→≡ _ _ (every-at 8 (product-at k i) (every-at 8 (λ i. every 8 (product-at k i)) (every-at 8 (λ k. every 8 (λ i. every 8 (product-at k i))) product-test k h) i l) m b))
+component-product : (k i : ℕ) → k < 8 → i < 8 → {a : List ℤ} → Eight a → component (mul (cosine (pos k)) a) i ≡ entry k i a
+unfolding entry-at entry
+component-product k i h l =
+    linear-same (λ a. component (mul (cosine (pos k)) a) i) (entry k i) (form-component (mul (cosine (pos k))) (mul-right (cosine (pos k))) i)
+    (form-plus (form-continued (7 + i - k)) (form-continued (7 + i + k))) (λ m b. eqZ→≡ _ _ (every₃-at 8 entry-at entry-test k i m h l b))
 
-pub component-spread : (a : List ℤ) (j : ℕ) → j < 22 → component (spread a) j ≡ continued a j
+component-spread : (a : List ℤ) (j : ℕ) → j < 22 → component (spread a) j ≡ continued a j
 unfolding spread
 component-spread a j h = getD-table 22 (continued a) (pos 0) j h
 
--- the code's basis-product is the ring's
+-- the code's product is the ring's
 pub folded-spread : (k : ℕ) → k < 8 → {a : List ℤ} → Eight a → folded (spread a) k ≡ mul (cosine (pos k)) a
 unfolding folded entry
 folded-spread k h {a} e =
     sym (is-table (pos 0) (mul (cosine (pos k)) a) 8 _ (eight-mul (eight-cosine (pos k)) e .eight)
-    (λ i l. product-entry k i h l a e ∙ sym (ap₂ _+ℤ_ (component-spread a (7 + i - k) (omega arith)) (component-spread a (7 + i + k) (omega arith)))))
+    (λ i l. component-product k i h l e ∙ sym (ap₂ _+ℤ_ (component-spread a (7 + i - k) (omega arith)) (component-spread a (7 + i + k) (omega arith)))))

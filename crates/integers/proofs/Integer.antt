@@ -2,15 +2,15 @@
 -- No tactic reads ℤ. So an integer is written as a difference of two naturals, `dif a b`, behind a shut name; the rules below carry
 -- +, -, *, ≡ and ≤ over to naturals, and each law is then one call of `omega`.
 -- Assumes nothing.
-use mathlib.Core.Path.{_≡_, refl, sym, ap, _∙_, subst}
+use mathlib.Core.Path.{_≡_, sym, ap, _∙_}
 use mathlib.Core.Logic.{_↔_}
 use mathlib.Core.Bool.{Bool, true, false, not, cond}
 use Prim.Native.Nat.{ℕ, zero, suc, _+_, _*_, _-_, _≤_, _<_}
 use native.Mathlib.Omega.{arith}
 use native.Mathlib.Nat.{eq-of-mul-eq-mul-left, mul-le-mul-left}
-use lib.Dec.{T, ltb, leb, ltb→lt, nltb→le, leb→le, le→leb}
+use lib.Dec.{T, ltb, ltb→lt, nltb→le, leb→le, le→leb}
 use lib.IntN.{ℤ, pos, negsuc, subℕ, _+ℤ_, _-ℤ_, _*ℤ_, negℤ, natAbs}
-use lib.Signed.{_≤ℤ_, leZ}
+use lib.Signed.{_≤ℤ_}
 
 -- ---- an integer as a difference
 
@@ -148,11 +148,11 @@ pub *ℤ-negℤ : (a b : ℤ) → a *ℤ negℤ b ≡ negℤ (a *ℤ b)
 pub minus-one-*ℤ : (a : ℤ) → negsuc 0 *ℤ a ≡ negℤ a
 minus-one-*ℤ a = rw (parts a, parts (negsuc 0)) (simp difs (dif-same _ _ _ _ (omega arith)))
 
-pub negℤ--ℤ : (a b : ℤ) → negℤ (a -ℤ b) ≡ b -ℤ a
-negℤ--ℤ a b = rw (parts a, parts b) (simp difs (dif-same _ _ _ _ (omega arith)))
+pub negℤ-sub : (a b : ℤ) → negℤ (a -ℤ b) ≡ b -ℤ a
+negℤ-sub a b = rw (parts a, parts b) (simp difs (dif-same _ _ _ _ (omega arith)))
 
-pub -ℤ--ℤ : (a b : ℤ) → a -ℤ (a -ℤ b) ≡ b
--ℤ--ℤ a b = rw (parts a, parts b) (simp difs (dif-same _ _ _ _ (omega arith)))
+pub sub-sub : (a b : ℤ) → a -ℤ (a -ℤ b) ≡ b
+sub-sub a b = rw (parts a, parts b) (simp difs (dif-same _ _ _ _ (omega arith)))
 
 -- a positive factor cancels
 pub *ℤ-cancel : {n : ℕ} → 0 < n → {a b : ℤ} → pos n *ℤ a ≡ pos n *ℤ b → a ≡ b

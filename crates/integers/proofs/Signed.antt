@@ -1,7 +1,7 @@
 -- Signed numbers in code. A signed local holds bits: what is read back of a number z is `toZ w (ofZ w z)`, which is z where z fits the width.
 -- These laws hide that for a sum and for a difference, whose operands are at most half of the range.
 -- Assumes nothing.
-use mathlib.Core.Path.{_≡_, ap, ap₂, _∙_}
+use mathlib.Core.Path.{_≡_, ap₂}
 use Prim.Native.Nat.{ℕ, _+_, _^_, _≤_, _<_}
 use native.Mathlib.Omega.{arith}
 use lib.IntN.{ℤ, natAbs}

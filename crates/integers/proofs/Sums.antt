@@ -1,12 +1,18 @@
 -- Sums over a range, in any commutative monoid: one set of laws for naturals, integers and elements.
 -- Assumes nothing.
 use mathlib.Core.Path.{_≡_, refl, sym, ap, _∙_}
-use Prim.Native.Nat.{ℕ, zero, suc, _+_, _*_, _≤_, _<_, zero-le}
-use native.Mathlib.Nat.{add-zero, add-suc, add-assoc, add-comm, zero-add, mul-zero, zero-mul, suc-mul, add-le-add, le-refl, not-suc-le-zero}
+use Prim.Native.Nat.{ℕ, zero, suc, _+_, _*_, _≤_, _<_}
+use native.Mathlib.Nat.{add-zero, add-suc, add-assoc, add-comm, zero-add, zero-mul, suc-mul, add-le-add, le-refl, not-suc-le-zero}
 use native.Mathlib.Decide.{ℕ-discrete}
 use native.Mathlib.Omega.{arith}
-use lib.IntN.{ℤ, pos, _+ℤ_, +ℤ-comm, +ℤ-assoc, +ℤ-idl}
+use lib.IntN.{pos, _+ℤ_, +ℤ-comm, +ℤ-assoc, +ℤ-idl}
 use Rattle.integers.specs.Sum.{sum}
+
+-- (a + b) + (c + d) = (a + c) + (b + d)
+module _ {A : Type 0} (plus : A → A → A) (comm : (a b : A) → plus a b ≡ plus b a) (assoc : (a b c : A) → plus (plus a b) c ≡ plus a (plus b c)) where
+  pub swap : (a b c d : A) → plus (plus a b) (plus c d) ≡ plus (plus a c) (plus b d)
+  swap a b c d =
+      assoc a b (plus c d) ∙ ap (plus a) (sym (assoc b c d) ∙ ap (λ x. plus x d) (comm b c) ∙ assoc c b d) ∙ sym (assoc a c (plus b d))
 
 pub record CommutativeMonoid {A : Type 0} (none : A) (plus : A → A → A) : Type 0 where
   pub comm : (a b : A) → plus a b ≡ plus b a
@@ -19,16 +25,15 @@ naturals = record { comm = add-comm; assoc = add-assoc; unit = zero-add }
 pub integers : CommutativeMonoid (pos 0) _+ℤ_
 integers = record { comm = +ℤ-comm; assoc = +ℤ-assoc; unit = +ℤ-idl }
 
--- ---- laws that need no law of the operation
+-- ---- laws that ask nothing of the operation
 
 module _ {A : Type 0} (none : A) (plus : A → A → A) where
   pub sum-cong : (n : ℕ) (f g : ℕ → A) → ((k : ℕ) → k < n → f k ≡ g k) → sum none plus n f ≡ sum none plus n g
   unfolding sum
   sum-cong zero f g h = refl
-  sum-cong (suc n) f g h =
-      rw (sum-cong n f g (λ k l. h k (omega arith)), h n (omega arith))
+  sum-cong (suc n) f g h = rw (sum-cong n f g (λ k l. h k (omega arith)), h n (omega arith))
 
-  -- a map that keeps sums of two keeps sums over a range
+  -- a map that keeps `none` and sums of two keeps sums over a range
   pub sum-map : {B : Type 0} (none′ : B) (plus′ : B → B → B) (h : A → B) → h none ≡ none′ → ((a b : A) → h (plus a b) ≡ plus′ (h a) (h b))
       → (n : ℕ) (f : ℕ → A) → h (sum none plus n f) ≡ sum none′ plus′ n (λ k. h (f k))
   unfolding sum
@@ -38,11 +43,7 @@ module _ {A : Type 0} (none : A) (plus : A → A → A) where
 -- ---- laws of a commutative monoid
 
 module _ {A : Type 0} (none : A) (plus : A → A → A) (M : CommutativeMonoid none plus) where
-  pub swap : (a b c d : A) → plus (plus a b) (plus c d) ≡ plus (plus a c) (plus b d)
-  swap a b c d =
-      M .assoc a b (plus c d) ∙ ap (plus a) (sym (M .assoc b c d) ∙ ap (λ x. plus x d) (M .comm b c) ∙ M .assoc c b d) ∙ sym (M .assoc a c (plus b d))
-
-  pub unit-right : (a : A) → plus a none ≡ a
+  unit-right : (a : A) → plus a none ≡ a
   unit-right a = M .comm a none ∙ M .unit a
 
   pub sum-none : (n : ℕ) → sum none plus n (λ k. none) ≡ none
@@ -53,7 +54,7 @@ module _ {A : Type 0} (none : A) (plus : A → A → A) (M : CommutativeMonoid n
   pub sum-plus : (n : ℕ) (f g : ℕ → A) → sum none plus n (λ k. plus (f k) (g k)) ≡ plus (sum none plus n f) (sum none plus n g)
   unfolding sum
   sum-plus zero f g = sym (M .unit none)
-  sum-plus (suc n) f g = rw (sum-plus n f g) (swap _ _ _ _)
+  sum-plus (suc n) f g = rw (sum-plus n f g) (swap plus (M .comm) (M .assoc) _ _ _ _)
 
   -- the order of two sums does not matter
   pub sum-swap : (m n : ℕ) (f : ℕ → ℕ → A) → sum none plus m (λ i. sum none plus n (f i)) ≡ sum none plus n (λ j. sum none plus m (λ i. f i j))
@@ -76,8 +77,7 @@ module _ {A : Type 0} (none : A) (plus : A → A → A) (M : CommutativeMonoid n
   pub sum-only : (n : ℕ) (f : ℕ → A) (r : ℕ) → r < n → ((k : ℕ) → k < n → (k ≡ r → ⊥) → f k ≡ none) → sum none plus n f ≡ f r
   unfolding sum
   sum-only zero f r h z = absurd (not-suc-le-zero h)
-  sum-only (suc n) f r h z =
-      go (ℕ-discrete r n) (λ l. sum-only n f r l (λ k b. z k (omega arith)))
+  sum-only (suc n) f r h z = go (ℕ-discrete r n) (λ l. sum-only n f r l (λ k b. z k (omega arith)))
     where
       go : Dec (r ≡ n) → (r < n → sum none plus n f ≡ f r) → plus (sum none plus n f) (f n) ≡ f r
       go (yes p) rest =
@@ -86,15 +86,14 @@ module _ {A : Type 0} (none : A) (plus : A → A → A) (M : CommutativeMonoid n
 
 -- a map that keeps sums of two keeps a sum of at least one term, whatever it does to `none`
 module _ {A B : Type 0} (none : A) (plus : A → A → A) (M : CommutativeMonoid none plus) (none′ : B) (plus′ : B → B → B) (M′ : CommutativeMonoid none′ plus′) where
-  pub sum-map-some : (h : A → B) → ((a b : A) → h (plus a b) ≡ plus′ (h a) (h b))
-      → (n : ℕ) (f : ℕ → A) → 0 < n → h (sum none plus n f) ≡ sum none′ plus′ n (λ k. h (f k))
+  pub sum-map-some : (h : A → B) → ((a b : A) → h (plus a b) ≡ plus′ (h a) (h b)) → (n : ℕ) (f : ℕ → A) → 0 < n → h (sum none plus n f) ≡ sum none′ plus′ n (λ k. h (f k))
   unfolding sum
   sum-map-some h p zero f l = absurd (not-suc-le-zero l)
   sum-map-some h p (suc zero) f l = ap h (M .unit (f zero)) ∙ sym (M′ .unit (h (f zero)))
   sum-map-some h p (suc (suc n)) f l =
       p (sum none plus (suc n) f) (f (suc n)) ∙ ap (λ x. plus′ x (h (f (suc n)))) (sum-map-some h p (suc n) f (omega arith))
 
--- ---- orders
+-- ---- the order
 
 pub sum-le : (n : ℕ) (f g : ℕ → ℕ) → ((k : ℕ) → k < n → f k ≤ g k) → sum 0 _+_ n f ≤ sum 0 _+_ n g
 unfolding sum

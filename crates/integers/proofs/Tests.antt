@@ -1,36 +1,53 @@
--- Tests that are computed: over every number of a range, and for the equality of lists of integers.
+-- Tests that are computed: over all numbers below a bound, and for the equality of integers and of lists of them.
 -- A table's rule is one such test, and one of these laws turns it into the rule at each entry.
 -- Assumes nothing.
-use mathlib.Core.Path.{_≡_, refl, sym, ap, ap₂, subst}
+use mathlib.Core.Path.{_≡_, refl, ap, ap₂}
 use mathlib.Core.Bool.{Bool, true, false, _&&_}
 use mathlib.Core.List.{List, [], _∷_}
-use Prim.Native.Nat.{ℕ, zero, suc, _+_, _<_}
-use native.Mathlib.Nat.{le-of-suc-le-suc, not-suc-le-zero}
+use Prim.Native.Nat.{ℕ, zero, suc, _<_}
+use native.Mathlib.Nat.{not-suc-le-zero}
 use native.Mathlib.Decide.{ℕ-discrete}
 use native.Mathlib.Omega.{arith}
 use lib.Dec.{T, eqb, eqb→eq}
 use lib.IntN.{ℤ, pos, negsuc}
 
-pub and-left : (a b : Bool) → T (a && b) → T a
+and-left : (a b : Bool) → T (a && b) → T a
 and-left true b t = tt
 and-left false b t = t
 
-pub and-right : (a b : Bool) → T (a && b) → T b
+and-right : (a b : Bool) → T (a && b) → T b
 and-right true b t = t
 and-right false b t = absurd t
+
+-- ---- ranges
 
 -- the test f passes at each number below n
 abbrev pub every : ℕ → (ℕ → Bool) → Bool
 every zero f = true
 every (suc n) f = f n && every n f
 
-pub every-at : (n : ℕ) (f : ℕ → Bool) → T (every n f) → (k : ℕ) → k < n → T (f k)
-every-at zero f t k h = absurd (not-suc-le-zero h)
-every-at (suc n) f t k h = go (ℕ-discrete k n) (every-at n f (and-right (f n) (every n f) t) k)
+pub every-at : (n : ℕ) (f : ℕ → Bool) → T (every n f) → (i : ℕ) → i < n → T (f i)
+every-at zero f t i h = absurd (not-suc-le-zero h)
+every-at (suc n) f t i h = go (ℕ-discrete i n) (every-at n f (and-right (f n) (every n f) t) i)
   where
-    go : Dec (k ≡ n) → (k < n → T (f k)) → T (f k)
+    go : Dec (i ≡ n) → (i < n → T (f i)) → T (f i)
     go (yes p) rest = rw p (and-left (f n) (every n f) t)
     go (no q) rest = rest (omega arith)
+
+-- two numbers, and three
+abbrev pub every₂ : ℕ → (ℕ → ℕ → Bool) → Bool
+every₂ n f = every n (λ i. every n (f i))
+
+pub every₂-at : (n : ℕ) (f : ℕ → ℕ → Bool) → T (every₂ n f) → (i j : ℕ) → i < n → j < n → T (f i j)
+every₂-at n f t i j h k = every-at n (f i) (every-at n (λ i. every n (f i)) t i h) j k
+
+abbrev pub every₃ : ℕ → (ℕ → ℕ → ℕ → Bool) → Bool
+every₃ n f = every n (λ i. every₂ n (f i))
+
+pub every₃-at : (n : ℕ) (f : ℕ → ℕ → ℕ → Bool) → T (every₃ n f) → (i j k : ℕ) → i < n → j < n → k < n → T (f i j k)
+every₃-at n f t i j k h l m = every₂-at n (f i) (every-at n (λ i. every₂ n (f i)) t i h) j k l m
+
+-- ---- equality
 
 abbrev pub eqZ : ℤ → ℤ → Bool
 eqZ (pos a) (pos b) = eqb a b
@@ -54,5 +71,4 @@ pub eqList→≡ : (a b : List ℤ) → T (eqList a b) → a ≡ b
 eqList→≡ [] [] t = refl
 eqList→≡ [] (y ∷ b) t = absurd t
 eqList→≡ (x ∷ a) [] t = absurd t
-eqList→≡ (x ∷ a) (y ∷ b) t =
-    ap₂ _∷_ (eqZ→≡ x y (and-left (eqZ x y) (eqList a b) t)) (eqList→≡ a b (and-right (eqZ x y) (eqList a b) t))
+eqList→≡ (x ∷ a) (y ∷ b) t = ap₂ _∷_ (eqZ→≡ x y (and-left (eqZ x y) (eqList a b) t)) (eqList→≡ a b (and-right (eqZ x y) (eqList a b) t))

@@ -1,24 +1,27 @@
--- Elements by their components: which operations keep all eight, what each component of a result is, and that an element is the
+-- Elements by their components: which operations keep all eight, what a component of a result is, and that an element is the
 -- combination of 1 and c_1 to c_7 by its components.
 -- Assumes nothing.
-use mathlib.Core.Path.{_≡_, refl, sym, ap, ap₂, _∙_}
-use mathlib.Core.Bool.{Bool, cond}
+use mathlib.Core.Path.{_≡_, refl, sym, ap, _∙_}
+use mathlib.Core.Bool.{Bool}
 use mathlib.Core.List.{List, [], _∷_}
-use Prim.Native.Nat.{ℕ, zero, suc, _+_, _%_, _≤_, _<_}
+use Prim.Native.Nat.{ℕ, zero, suc, _%_, _<_}
 use native.Mathlib.Omega.{arith}
 use lib.Dec.{T, eqb, eqb→eq}
-use lib.IntN.{ℤ, pos, negsuc, _+ℤ_, _*ℤ_, natAbs, +ℤ-idl, +ℤ-idr, *ℤ-zero, *ℤ-comm}
-use lib.ListN.{length, getD}
+use lib.IntN.{ℤ, pos, _+ℤ_, _-ℤ_, _*ℤ_, natAbs, +ℤ-idl, +ℤ-idr, *ℤ-zero}
+use lib.ListN.{length}
 use lib.Seq.{ext-getD}
+use borrow.Author.Tests.{lt-ltb}
 use Rattle.integers.specs.Sum.{sum}
 use Rattle.integers.specs.Table.{table}
 use Rattle.integers.proofs.Integer.{*ℤ-pos1}
 use Rattle.integers.proofs.Tables.{is-table}
-use Rattle.integers.proofs.Tests.{every, every-at}
-use Rattle.ring.specs.Element.{component, add, scale, only, number, quarter, half, turn, cosine, combine}
-use Rattle.ring.proofs.Linear.{add-nil}
+use Rattle.integers.proofs.Tests.{every, every-at, eqList, eqList→≡}
+use Rattle.ring.specs.Element.{component, add, scale, only, number, turn, cosine, by-rule, basis-product, combine, mul}
+use Rattle.ring.proofs.Linear.{Linear, LinearMap, LinearForm, linear-agree, add-nil}
 
--- all eight components are there. A record, so that the element can be inferred
+-- ---- elements with all of their components
+
+-- a record, so that the element can be inferred
 pub record Eight (a : List ℤ) : Type 0 where
   pub eight : length a ≡ 8
 
@@ -41,28 +44,45 @@ eight-scale s {a} p = record { eight = length-scale s a ∙ p .eight }
 pub eight-only : (s : ℤ) (k : ℕ) → Eight (only s k)
 eight-only s k = record { eight = refl }
 
-turn-test : T (every 32 (λ r. eqb (length (turn r)) 8))
+turn-at : ℕ → Bool
+turn-at r = eqb (length (turn r)) 8
+
+turn-test : T (every 32 turn-at)
+unfolding turn-at
 turn-test = tt
 
 pub eight-cosine : (m : ℤ) → Eight (cosine m)
-unfolding cosine
-eight-cosine m =
-    let r = natAbs m % 32 in
-    record { eight = eqb→eq (length (turn r)) 8 (every-at 32 (λ r. eqb (length (turn r)) 8) turn-test r (omega arith)) }
+unfolding turn-at cosine
+eight-cosine m = record { eight = eqb→eq _ 8 (every-at 32 turn-at turn-test (natAbs m % 32) (omega arith)) }
 
--- a combination of at least one element
-pub eight-combine : (f : ℕ → List ℤ) (a : List ℤ) → 0 < length a → ((k : ℕ) → k < length a → Eight (f k)) → Eight (combine f a)
+-- a combination of at least one element, and a sum of at least one
+eight-combine : (f : ℕ → List ℤ) (a : List ℤ) → 0 < length a → ((k : ℕ) → k < length a → Eight (f k)) → Eight (combine f a)
 eight-combine f [] p h = absurd (omega arith)
 eight-combine f (x ∷ []) p h = rw add-nil (eight-scale x (h zero (omega arith)))
 eight-combine f (x ∷ y ∷ a) p h =
     eight-add (eight-scale x (h zero (omega arith))) (eight-combine (λ k. f (suc k)) (y ∷ a) (omega arith) (λ k l. h (suc k) (omega arith)))
 
--- a sum of at least one element
 pub eight-sum : (n : ℕ) (f : ℕ → List ℤ) → 0 < n → ((k : ℕ) → k < n → Eight (f k)) → Eight (sum [] add n f)
 unfolding sum
 eight-sum zero f p h = absurd (omega arith)
 eight-sum (suc zero) f p h = h zero (omega arith)
 eight-sum (suc (suc n)) f p h = eight-add (eight-sum (suc n) f (omega arith) (λ k l. h k (omega arith))) (h (suc n) (omega arith))
+
+eight-rule : (i j : ℕ) → Eight (by-rule i j)
+eight-rule zero zero = eight-only (pos 1) 0
+eight-rule zero (suc j) = eight-cosine (pos (suc j))
+eight-rule (suc i) zero = eight-cosine (pos (suc i))
+eight-rule (suc i) (suc j) = eight-add (eight-cosine (pos (suc i) +ℤ pos (suc j))) (eight-cosine (pos (suc i) -ℤ pos (suc j)))
+
+eight-product : (i j : ℕ) → i < 8 → j < 8 → Eight (basis-product i j)
+unfolding basis-product
+eight-product i j h k = rw (lt-ltb i 8 h, lt-ltb j 8 k) (eight-rule i j)
+
+pub eight-mul : {a b : List ℤ} → Eight a → Eight b → Eight (mul a b)
+unfolding mul
+eight-mul {a} {b} p q =
+    eight-combine (λ i. combine (basis-product i) b) a (omega arith)
+    (λ i h. eight-combine (basis-product i) b (omega arith) (λ j k. eight-product i j (omega arith) (omega arith)))
 
 -- ---- components
 
@@ -77,16 +97,39 @@ component-scale s [] k = sym (*ℤ-zero s)
 component-scale s (x ∷ a) zero = refl
 component-scale s (x ∷ a) (suc k) = component-scale s a k
 
+-- a component of a linear map's value is a linear form
+pub form-component : (L : List ℤ → List ℤ) → LinearMap L → (k : ℕ) → LinearForm (λ a. component (L a) k)
+form-component L l k = record {
+  nil = ap (λ a. component a k) (l .nil);
+  sums = λ a b. ap (λ c. component c k) (l .sums a b) ∙ component-add (L a) (L b) k;
+  multiples = λ s a. ap (λ c. component c k) (l .multiples s a) ∙ component-scale s (L a) k;
+}
+
 -- two elements are the same when all their components are (01, "Elements")
-pub same-components : (a b : List ℤ) → Eight a → Eight b → ((k : ℕ) → k < 8 → component a k ≡ component b k) → a ≡ b
-same-components a b p q h = ext-getD (pos 0) a b (p .eight ∙ sym (q .eight)) (λ k l. h k (omega arith))
+pub same-components : {a b : List ℤ} → Eight a → Eight b → ((k : ℕ) → k < 8 → component a k ≡ component b k) → a ≡ b
+same-components {a} {b} p q h = ext-getD (pos 0) a b (p .eight ∙ sym (q .eight)) (λ k l. h k (omega arith))
 
-pub by-components : (a : List ℤ) → Eight a → a ≡ table 8 (component a)
-by-components a e = is-table (pos 0) a 8 (component a) (e .eight) (λ k h. refl)
+pub by-components : {a : List ℤ} → Eight a → a ≡ table 8 (component a)
+by-components {a} e = is-table (pos 0) a 8 (component a) (e .eight) (λ k h. refl)
 
--- u_0 + u_1·c_1 + ... + u_7·c_7
-expand-eight : (u : ℕ → ℤ) → combine (only (pos 1)) (table 8 u) ≡ table 8 u
-expand-eight u = simp (*ℤ-zero, *ℤ-pos1, +ℤ-idl, +ℤ-idr)
+-- ---- an element is what its components count
 
-pub expand : (a : List ℤ) → Eight a → combine (only (pos 1)) a ≡ a
-expand a e = rw (by-components a e) (expand-eight (component a))
+expand-table : (u : ℕ → ℤ) → combine (only (pos 1)) (table 8 u) ≡ table 8 u
+expand-table u = simp (*ℤ-zero, *ℤ-pos1, +ℤ-idl, +ℤ-idr)
+
+pub expand : {a : List ℤ} → Eight a → combine (only (pos 1)) a ≡ a
+expand {a} e = rw (by-components e) (expand-table (component a))
+
+-- the component that counts c_k, for k from 1 to 7
+basis-test : T (every 7 (λ k. eqList (cosine (pos (suc k))) (only (pos 1) (suc k))))
+unfolding cosine
+basis-test = tt
+
+pub cosine-only : (k : ℕ) → k < 7 → cosine (pos (suc k)) ≡ only (pos 1) (suc k)
+cosine-only k h = eqList→≡ _ _ (every-at 7 (λ k. eqList (cosine (pos (suc k))) (only (pos 1) (suc k))) basis-test k h)
+
+-- two linear maps that agree at 1 and at c_1 to c_7 are the same
+pub linear-same : {B : Type 0} {none : B} {plus : B → B → B} {times : ℤ → B → B} (L M : List ℤ → B) → Linear none plus times L → Linear none plus times M
+    → ((k : ℕ) → k < 8 → L (only (pos 1) k) ≡ M (only (pos 1) k)) → {a : List ℤ} → Eight a → L a ≡ M a
+linear-same L M l m h {a} e =
+    ap L (sym (expand e)) ∙ linear-agree L M l m (only (pos 1)) a (λ k b. h k (rw (e .eight) at b)) ∙ ap M (expand e)

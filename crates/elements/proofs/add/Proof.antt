@@ -1,6 +1,5 @@
-use mathlib.Core.Path.{_≡_, refl, sym, ap, _∙_}
-use mathlib.Core.List.{List}
-use Prim.Native.Nat.{ℕ, _+_, _-_, _*_, _≤_, _<_}
+use mathlib.Core.Path.{refl, sym, _∙_}
+use Prim.Native.Nat.{_-_}
 use native.Mathlib.Omega.{arith}
 use lib.IntN.{pos, _+ℤ_}
 use Rattle.integers.proofs.Magnitude.{natAbs-add}
@@ -12,9 +11,6 @@ use Rattle.elements.proofs.Sums.{add-table}
 use borrow.Author.Needs.{needs}
 use Rattle.elements.proofs.add.Statement.{statement}
 use Rattle.elements.proofs.add.Tie as tie
-use Rattle.elements.proofs.add.Reads as reads
-use Rattle.elements.proofs.add.Lts as lts
-use Rattle.integers.proofs.plus.Reads as plus-reads
 
 abbrev Inv-loop : tie.InvT-loop
 Inv-loop x y r₀ i₀ r i = Filled (pos 0) 8 (λ k. component x k +ℤ component y k) i r

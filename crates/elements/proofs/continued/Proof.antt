@@ -1,6 +1,5 @@
-use mathlib.Core.Path.{_≡_, refl, sym, ap, _∙_}
-use mathlib.Core.List.{List}
-use Prim.Native.Nat.{ℕ, _+_, _-_, _*_, _≤_, _<_, zero-le}
+use mathlib.Core.Path.{_≡_, sym, _∙_}
+use Prim.Native.Nat.{_-_, zero-le}
 use native.Mathlib.Omega.{arith}
 use lib.Dec.{lit<}
 use lib.IntN.{pos, _-ℤ_, negℤ, +ℤ-idl}
@@ -15,9 +14,6 @@ use Rattle.elements.proofs.Products.{continued-low, continued-middle, c
 use borrow.Author.Needs.{needs}
 use Rattle.elements.proofs.continued.Statement.{statement}
 use Rattle.elements.proofs.continued.Tie as tie
-use Rattle.elements.proofs.continued.Reads as reads
-use Rattle.elements.proofs.continued.Lts as lts
-use Rattle.integers.proofs.minus.Reads as minus-reads
 
 sub-result : tie.Need-sub-result
 sub-result c = search needs

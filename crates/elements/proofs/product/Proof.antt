@@ -1,6 +1,5 @@
-use mathlib.Core.Path.{_≡_, refl, sym, ap, _∙_}
-use mathlib.Core.List.{List}
-use Prim.Native.Nat.{ℕ, _+_, _-_, _*_, _≤_, _<_}
+use mathlib.Core.Path.{refl}
+use Prim.Native.Nat.{_+_, _-_}
 use native.Mathlib.Omega.{arith}
 use lib.IntN.{pos, _+ℤ_}
 use Rattle.integers.proofs.Magnitude.{natAbs-add}
@@ -8,12 +7,8 @@ use Rattle.integers.proofs.Tables.{Filled, filled-none, filled-more, filled-all
 use Rattle.ring.specs.Element.{component}
 use Rattle.elements.specs.Spread.{folded}
 use Rattle.elements.proofs.Bounds.{parts-fit, parts-kept}
-use borrow.Author.Needs.{needs}
 use Rattle.elements.proofs.product.Statement.{statement}
 use Rattle.elements.proofs.product.Tie as tie
-use Rattle.elements.proofs.product.Reads as reads
-use Rattle.elements.proofs.product.Lts as lts
-use Rattle.integers.proofs.plus.Reads as plus-reads
 
 abbrev Inv-loop : tie.InvT-loop
 Inv-loop k u r₀ i₀ r i = Filled (pos 0) 8 (λ i. component u (7 + i - k) +ℤ component u (7 + i + k)) i r

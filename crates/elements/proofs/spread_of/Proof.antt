@@ -1,6 +1,5 @@
-use mathlib.Core.Path.{_≡_, refl, sym, ap, _∙_}
-use mathlib.Core.List.{List}
-use Prim.Native.Nat.{ℕ, _+_, _-_, _*_, _≤_, _<_}
+use mathlib.Core.Path.{refl, _∙_}
+use Prim.Native.Nat.{_-_}
 use native.Mathlib.Omega.{arith}
 use lib.IntN.{pos}
 use mir.Facts.{toZ-ofZ}
@@ -9,9 +8,6 @@ use Rattle.elements.specs.Spread.{continued, spread}
 use borrow.Author.Needs.{needs}
 use Rattle.elements.proofs.spread_of.Statement.{statement}
 use Rattle.elements.proofs.spread_of.Tie as tie
-use Rattle.elements.proofs.spread_of.Reads as reads
-use Rattle.elements.proofs.spread_of.Lts as lts
-use Rattle.elements.proofs.continued.Reads as continued-reads
 
 abbrev Inv-loop : tie.InvT-loop
 Inv-loop a s₀ j₀ s j = Filled (pos 0) 22 (continued (a .parts)) j s

@@ -1,7 +1,4 @@
-use mathlib.Core.Path.{_≡_, refl, sym, ap, _∙_}
-use mathlib.Core.List.{List}
-use Prim.Native.Nat.{ℕ, _+_, _-_, _*_, _≤_, _<_}
-use native.Mathlib.Omega.{arith}
+use mathlib.Core.Path.{ap, _∙_}
 use Rattle.ring.proofs.Components.{Eight}
 use Rattle.elements.specs.Spread.{folded}
 use Rattle.elements.proofs.Bounds.{within-spread}
@@ -9,10 +6,6 @@ use Rattle.elements.proofs.Products.{folded-spread}
 use borrow.Author.Needs.{needs}
 use Rattle.elements.proofs.times.Statement.{statement}
 use Rattle.elements.proofs.times.Tie as tie
-use Rattle.elements.proofs.times.Reads as reads
-use Rattle.elements.proofs.times.Lts as lts
-use Rattle.elements.proofs.product.Reads as product-reads
-use Rattle.elements.proofs.spread_of.Reads as spread-of-reads
 
 spread-of-requires : tie.Need-spread-of-requires
 spread-of-requires c κs = search needs
