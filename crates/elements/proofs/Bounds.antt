@@ -4,23 +4,23 @@ use mathlib.Core.Path.{_≡_, subst}
 use mathlib.Core.Bool.{Bool, true, false, cond}
 use mathlib.Core.List.{List}
 use Prim.Native.Nat.{ℕ, _+_, _-_, _≤_, _<_, zero-le}
-use native.Mathlib.Nat.{le-trans, add-le-add}
+use native.Mathlib.Nat.{le-refl, le-trans, add-le-add}
 use native.Mathlib.Decide.{decLt}
 use native.Mathlib.Omega.{arith}
-use lib.Dec.{ltb, lit<}
+use lib.Dec.{eqb, ltb, lit<}
 use lib.IntN.{ℤ, pos, _+ℤ_, negℤ, natAbs}
 use lib.ListN.{List·getD-eq-default}
 use mir.Syntax.{w32}
 use mir.Val.{SFits, ofZ, toZ}
 use Rattle.integers.proofs.Signed.{op-fits, op-kept}
 use Rattle.integers.specs.Table.{table}
-use Rattle.integers.proofs.Magnitude.{natAbs-neg, natAbs-add, natAbs-sub}
+use Rattle.integers.proofs.Magnitudes.{natAbs-neg, natAbs-add, natAbs-sub}
 use Rattle.integers.proofs.Tables.{length-table, getD-table}
-use Rattle.ring.specs.Element.{component, add, subtract, cosine, mul}
+use Rattle.ring.specs.Element.{component, add, subtract, only, cosine, mul}
 use Rattle.ring.proofs.Components.{Eight, component-add}
 use Rattle.elements.specs.Bound.{Within, headroom}
 use Rattle.elements.specs.Spread.{continued, spread, folded}
-use Rattle.elements.proofs.Sums.{component-subtract}
+use Rattle.elements.proofs.Parts.{component-subtract}
 use Rattle.elements.proofs.Products.{folded-spread}
 
 pub within-le : {A B : ℕ} {a : List ℤ} → A ≤ B → Within A a → Within B a
@@ -44,6 +44,10 @@ within-table B n f h = record { within = λ k. go k (decLt k n) }
 within-cond : (B : ℕ) (t : Bool) (x y : ℤ) → natAbs x ≤ B → natAbs y ≤ B → natAbs (cond t x y) ≤ B
 within-cond B true x y p q = p
 within-cond B false x y p q = q
+
+pub within-only : (s : ℤ) (k : ℕ) → Within (natAbs s) (only s k)
+within-only s k =
+    within-table (natAbs s) 8 (λ i. cond (eqb i k) s (pos 0)) (λ i h. within-cond (natAbs s) (eqb i k) s (pos 0) (le-refl (natAbs s)) zero-le)
 
 pub within-spread : {B : ℕ} {a : List ℤ} → Within B a → Within B (spread a)
 unfolding spread continued

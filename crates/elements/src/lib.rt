@@ -18,6 +18,16 @@ pub struct Element {
     pub parts: [i32; 8],
 }
 
+// The element with s at component k and 0 at the others: s·c_k, or the whole number s where k is 0.
+pub fn only(s: i32, k: usize) -> Element
+    requires { ⌜ k < 8 ⌝ }
+    ensures { λ r. ⌜ r .parts ≡ ring.only s k ⌝ }
+{
+    let mut parts = [0i32; 8];
+    parts[k] = s;
+    Element { parts }
+}
+
 // a + b
 pub fn add(a: Element, b: Element) -> Element
     requires { ⌜ Within headroom (a .parts) ⌝ }

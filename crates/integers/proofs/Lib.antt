@@ -1,6 +1,6 @@
 -- The laws that every other crate cites.
 pub mod Integer
-pub mod Magnitude
+pub mod Magnitudes
 pub mod Signed
 pub mod Sums
 pub mod Tables

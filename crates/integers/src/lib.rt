@@ -1,6 +1,6 @@
 // The sum and the difference of two numbers, as functions: a store of one into an array then asks only that it fits.
 ghost use mathlib.Core.Path.{_≡_};
-ghost use lib.IntN.{_+ℤ_, _-ℤ_};
+ghost use lib.IntN.{_+ℤ_, _-ℤ_, natAbs};
 ghost use mir.Val.{SFits};
 ghost use mir.Syntax.{w32};
 
@@ -18,4 +18,15 @@ pub fn minus(x: i32, y: i32) -> i32
     ensures { λ r. ⌜ r ≡ x -ℤ y ⌝ }
 {
     x - y
+}
+
+// The magnitude of x. That of -2^31 is 2^31, which no i32 holds.
+pub fn magnitude(x: i32) -> u64
+    ensures { λ r. ⌜ r ≡ natAbs x ⌝ }
+{
+    let wide = x as i64;
+    if wide < 0 {
+        return (0 - wide) as u64;
+    }
+    wide as u64
 }

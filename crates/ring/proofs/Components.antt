@@ -16,7 +16,7 @@ use Rattle.integers.specs.Table.{table}
 use Rattle.integers.proofs.Integer.{*ℤ-pos1}
 use Rattle.integers.proofs.Tables.{is-table}
 use Rattle.integers.proofs.Tests.{every, every-at, eqList, eqList→≡}
-use Rattle.ring.specs.Element.{component, add, scale, only, number, turn, cosine, by-rule, basis-product, combine, mul}
+use Rattle.ring.specs.Element.{component, add, scale, only, turn, cosine, by-rule, basis-product, combine, mul}
 use Rattle.ring.proofs.Linear.{Linear, LinearMap, LinearForm, linear-agree, add-nil}
 
 -- ---- elements with all of their components

@@ -1,6 +1,6 @@
 -- Linear forms: whole numbers that are made linearly of an element's components.
 -- Assumes nothing.
-use mathlib.Core.Path.{_≡_, sym, ap, ap₂, _∙_}
+use mathlib.Core.Path.{sym, ap, ap₂, _∙_}
 use mathlib.Core.Bool.{Bool, true, false, cond}
 use mathlib.Core.List.{List}
 use lib.IntN.{ℤ, _+ℤ_, negℤ, +ℤ-comm, +ℤ-assoc, negℤ-+ℤ}

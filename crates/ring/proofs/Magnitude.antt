@@ -8,7 +8,7 @@ use native.Mathlib.Omega.{arith}
 use lib.IntN.{ℤ, pos, natAbs}
 use lib.ListN.{length}
 use Rattle.integers.specs.Sum.{sum}
-use Rattle.integers.proofs.Magnitude.{natAbs-add, natAbs-mul}
+use Rattle.integers.proofs.Magnitudes.{natAbs-add, natAbs-mul}
 use Rattle.integers.proofs.Sums.{naturals, sum-cong, sum-le, sum-map, sum-none, sum-plus}
 use Rattle.ring.specs.Element.{component, add, scale, only, combine, magnitude}
 use Rattle.ring.proofs.Linear.{LinearMap, linear-combine}

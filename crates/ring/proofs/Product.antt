@@ -10,7 +10,7 @@ use lib.Dec.{T, ltb}
 use lib.IntN.{ℤ, pos, _-ℤ_, negℤ, +ℤ-comm}
 use borrow.Author.Tests.{le-ltb}
 use Rattle.integers.proofs.Integer.{negℤ-sub}
-use Rattle.integers.proofs.Magnitude.{natAbs-neg}
+use Rattle.integers.proofs.Magnitudes.{natAbs-neg}
 use Rattle.integers.proofs.Sums.{swap}
 use Rattle.integers.proofs.Tests.{every₃, every₃-at, eqList, eqList→≡}
 use Rattle.ring.specs.Element.{add, scale, turn, cosine, by-rule, basis-product, combine, mul}

@@ -2,12 +2,12 @@ use mathlib.Core.Path.{refl, sym, _∙_}
 use Prim.Native.Nat.{_-_}
 use native.Mathlib.Omega.{arith}
 use lib.IntN.{pos, _+ℤ_}
-use Rattle.integers.proofs.Magnitude.{natAbs-add}
+use Rattle.integers.proofs.Magnitudes.{natAbs-add}
 use Rattle.integers.proofs.Tables.{Filled, filled-none, filled-more, filled-all}
 use Rattle.ring.specs.Element.{component}
 use Rattle.ring.proofs.Components.{Eight}
 use Rattle.elements.proofs.Bounds.{parts-fit, parts-kept}
-use Rattle.elements.proofs.Sums.{add-table}
+use Rattle.elements.proofs.Parts.{add-table}
 use borrow.Author.Needs.{needs}
 use Rattle.elements.proofs.add.Statement.{statement}
 use Rattle.elements.proofs.add.Tie as tie

@@ -6,7 +6,7 @@ use lib.IntN.{pos, _-ℤ_, negℤ, +ℤ-idl}
 use lib.ListN.{length, List·getD-eq-default}
 use mir.Syntax.{w32}
 use mir.Facts.{toZ-ofZ}
-use Rattle.integers.proofs.Magnitude.{natAbs-sub}
+use Rattle.integers.proofs.Magnitudes.{natAbs-sub}
 use Rattle.integers.proofs.Signed.{op-fits, op-kept}
 use Rattle.ring.specs.Element.{component}
 use Rattle.elements.specs.Bound.{headroom}

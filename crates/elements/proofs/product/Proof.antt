@@ -2,7 +2,7 @@ use mathlib.Core.Path.{refl}
 use Prim.Native.Nat.{_+_, _-_}
 use native.Mathlib.Omega.{arith}
 use lib.IntN.{pos, _+ℤ_}
-use Rattle.integers.proofs.Magnitude.{natAbs-add}
+use Rattle.integers.proofs.Magnitudes.{natAbs-add}
 use Rattle.integers.proofs.Tables.{Filled, filled-none, filled-more, filled-all}
 use Rattle.ring.specs.Element.{component}
 use Rattle.elements.specs.Spread.{folded}
