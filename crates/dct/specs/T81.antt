@@ -1,17 +1,18 @@
--- The 2-D transform in the words of ITU-T T.81, A.3.3:
--- S(u,v) = 1/4 · C(u) · C(v) · sum over i, j of s(i,j) · cos((2i+1)·u·π/16) · cos((2j+1)·v·π/16), with C(0) = 1/√2 and C(k) = 1 otherwise.
--- Elements hold twice a cosine and twice a C, so what stands here is 64 times S.
+-- The 2-D transform in the words of ITU-T T.81, A.3.3, with i and u counting down, j and v across:
+-- S(u,v) = 1/4 · C(u) · C(v) · sum over i, j of s(i,j) · cos((2i+1)·u·π/16) · cos((2j+1)·v·π/16), C(0) = 1/√2, and C(k) = 1 for other k.
+-- An element holds twice a cosine and twice a C, so what stands here is 64 times S.
 use mathlib.Core.List.{List, []}
 use Prim.Native.Nat.{ℕ, zero, suc, _+_, _*_}
 use lib.IntN.{ℤ, pos}
 use Rattle.integers.specs.Sum.{sum}
 use Rattle.ring.specs.Element.{add, scale, number, cosine, mul}
 
--- 2·C(k): 2/√2 = √2 = 2·cos(4π/16), and 2
+-- 2·C(k): 2/√2 = √2 = 2·cos(4·π/16) where k = 0, and 2 otherwise
 unfoldable pub twice-C : ℕ → List ℤ
 twice-C zero = cosine (pos 4)
 twice-C (suc k) = number (pos 2)
 
+-- 64·S(u,v) = 2·C(u) · 2·C(v) · sum over i, j of s(i,j) · 2·cos(..) · 2·cos(..)
 unfoldable pub sixty-four-S : (ℕ → ℕ → ℤ) → ℕ → ℕ → List ℤ
 sixty-four-S s u v =
     mul (mul (twice-C u) (twice-C v))

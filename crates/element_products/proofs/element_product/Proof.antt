@@ -7,10 +7,10 @@ use mir.Syntax.{w32}
 use mir.Val.{ofZ, toZ}
 use mir.Facts.{toZ-ofZ}
 use borrow.Author.Tests.{lt-ltb, le-ltb}
+use borrow.Author.Needs.{needs}
 use Rattle.ring.specs.Element.{component, cosine, mul}
 use Rattle.elements.proofs.Bounds.{within-le, within-only}
 use Rattle.element_products.specs.Entry.{entry}
-use borrow.Author.Needs.{needs}
 use Rattle.element_products.proofs.element_product.Statement.{statement}
 use Rattle.element_products.proofs.element_product.Tie as tie
 

@@ -1,14 +1,16 @@
+-- `add` meets its contract: the loop fills the sum's components one by one, and each sum of two fits.
+-- Assumes nothing.
 use mathlib.Core.Path.{refl, sym, _∙_}
 use Prim.Native.Nat.{_-_}
 use native.Mathlib.Omega.{arith}
 use lib.IntN.{pos, _+ℤ_}
+use borrow.Author.Needs.{needs}
 use Rattle.integers.proofs.Magnitudes.{natAbs-add}
 use Rattle.integers.proofs.Tables.{Filled, filled-none, filled-more, filled-all}
 use Rattle.ring.specs.Element.{component}
 use Rattle.ring.proofs.Components.{Eight}
 use Rattle.elements.proofs.Bounds.{parts-fit, parts-kept}
 use Rattle.elements.proofs.Parts.{add-table}
-use borrow.Author.Needs.{needs}
 use Rattle.elements.proofs.add.Statement.{statement}
 use Rattle.elements.proofs.add.Tie as tie
 

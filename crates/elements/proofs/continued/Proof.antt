@@ -1,3 +1,5 @@
+-- `continued` meets its contract: each way out is one stretch of the index.
+-- Assumes nothing.
 use mathlib.Core.Path.{_≡_, sym, _∙_}
 use Prim.Native.Nat.{_-_, zero-le}
 use native.Mathlib.Omega.{arith}
@@ -6,12 +8,12 @@ use lib.IntN.{pos, _-ℤ_, negℤ, +ℤ-idl}
 use lib.ListN.{length, List·getD-eq-default}
 use mir.Syntax.{w32}
 use mir.Facts.{toZ-ofZ}
+use borrow.Author.Needs.{needs}
 use Rattle.integers.proofs.Magnitudes.{natAbs-sub}
 use Rattle.integers.proofs.Signed.{op-fits, op-kept}
 use Rattle.ring.specs.Element.{component}
 use Rattle.elements.specs.Bound.{headroom}
 use Rattle.elements.proofs.Products.{continued-low, continued-middle, continued-high}
-use borrow.Author.Needs.{needs}
 use Rattle.elements.proofs.continued.Statement.{statement}
 use Rattle.elements.proofs.continued.Tie as tie
 

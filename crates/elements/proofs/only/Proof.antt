@@ -1,7 +1,9 @@
+-- `only` meets its contract: one store into eight zeros.
+-- Assumes nothing.
 use mir.Syntax.{w32}
 use mir.ValLaws.{toZ-ofZ}
-use Rattle.elements.proofs.Parts.{set-only}
 use borrow.Author.Needs.{needs}
+use Rattle.elements.proofs.Parts.{set-only}
 use Rattle.elements.proofs.only.Statement.{statement}
 use Rattle.elements.proofs.only.Tie as tie
 

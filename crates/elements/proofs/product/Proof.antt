@@ -1,3 +1,5 @@
+-- `product` meets its contract: the loop fills the product's components one by one, and each sum of two fits.
+-- Assumes nothing.
 use mathlib.Core.Path.{refl}
 use Prim.Native.Nat.{_+_, _-_}
 use native.Mathlib.Omega.{arith}

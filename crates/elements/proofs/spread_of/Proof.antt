@@ -1,11 +1,13 @@
+-- `spread_of` meets its contract: the loop fills the continued components one by one.
+-- Assumes nothing.
 use mathlib.Core.Path.{refl, _∙_}
 use Prim.Native.Nat.{_-_}
 use native.Mathlib.Omega.{arith}
 use lib.IntN.{pos}
 use mir.Facts.{toZ-ofZ}
+use borrow.Author.Needs.{needs}
 use Rattle.integers.proofs.Tables.{Filled, filled-none, filled-more, filled-all}
 use Rattle.elements.specs.Spread.{continued, spread}
-use borrow.Author.Needs.{needs}
 use Rattle.elements.proofs.spread_of.Statement.{statement}
 use Rattle.elements.proofs.spread_of.Tie as tie
 

@@ -1,14 +1,16 @@
+-- `subtract` meets its contract: as `add`, with differences.
+-- Assumes nothing.
 use mathlib.Core.Path.{refl, sym, _∙_}
 use Prim.Native.Nat.{_-_}
 use native.Mathlib.Omega.{arith}
 use lib.IntN.{pos, _-ℤ_}
+use borrow.Author.Needs.{needs}
 use Rattle.integers.proofs.Magnitudes.{natAbs-sub}
 use Rattle.integers.proofs.Tables.{Filled, filled-none, filled-more, filled-all}
 use Rattle.ring.specs.Element.{component}
 use Rattle.ring.proofs.Components.{Eight}
 use Rattle.elements.proofs.Bounds.{parts-fit, parts-kept}
 use Rattle.elements.proofs.Parts.{subtract-table}
-use borrow.Author.Needs.{needs}
 use Rattle.elements.proofs.subtract.Statement.{statement}
 use Rattle.elements.proofs.subtract.Tie as tie
 

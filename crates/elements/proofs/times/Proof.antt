@@ -1,9 +1,11 @@
+-- `times` meets its contract: what `product` folds out of what `spread_of` lays out is the ring's product.
+-- Assumes nothing.
 use mathlib.Core.Path.{ap, _∙_}
+use borrow.Author.Needs.{needs}
 use Rattle.ring.proofs.Components.{Eight}
 use Rattle.elements.specs.Spread.{folded}
 use Rattle.elements.proofs.Bounds.{within-spread}
 use Rattle.elements.proofs.Products.{folded-spread}
-use borrow.Author.Needs.{needs}
 use Rattle.elements.proofs.times.Statement.{statement}
 use Rattle.elements.proofs.times.Tie as tie
 

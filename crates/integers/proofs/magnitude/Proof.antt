@@ -3,12 +3,12 @@
 use mathlib.Core.Path.{_≡_, ap, subst, _∙_}
 use mathlib.Core.Bool.{true, false}
 use native.Mathlib.Nat.{lt-of-le-of-lt, not-suc-le-zero}
-use borrow.Author.Tests.{ltb-true}
 use lib.Dec.{T, lit<}
 use lib.IntN.{ℤ, pos, negsuc, negℤ, natAbs}
 use lib.Signed.{ltZ, nonNeg, natAbs-le}
 use mir.Syntax.{w32, w64}
 use mir.Val.{SFits, Fits}
+use borrow.Author.Tests.{ltb-true}
 use Rattle.integers.proofs.Magnitudes.{natAbs-neg}
 use Rattle.integers.proofs.Signed.{wide-fits, wide-kept, negative-fits, negative-kept}
 use Rattle.integers.proofs.magnitude.Statement.{statement}
