@@ -3,15 +3,15 @@
 use mathlib.Core.Path.{_≡_, refl}
 use mathlib.Core.List.{List}
 use Prim.Native.Nat.{ℕ, zero, suc, _+_, _*_, _/_, _%_, _^_, _<_}
-use native.Mathlib.Nat.{pow-suc}
+use native.Mathlib.Nat.{pow-suc, one-le-pow, zero-lt-suc}
 use native.Mathlib.Omega.{arith}
 use lib.IntN.{ℤ, pos, _+ℤ_, _-ℤ_}
 use Rattle.integers.specs.Sum.{sum}
 use Rattle.integers.proofs.Sums.{CommutativeMonoid, sum-blocks}
-use Rattle.ring.specs.Element.{add, cosine, mul}
-use Rattle.ring.proofs.Components.{Eight, eight-only, eight-cosine, eight-mul}
+use Rattle.ring.specs.Element.{add, scale, cosine, mul}
+use Rattle.ring.proofs.Components.{Eight, eight-only, eight-cosine, eight-scale, eight-sum, eight-mul}
 use Rattle.ring.proofs.Cosines.{cosine-product}
-use Rattle.dct.specs.Transform.{factor, factors}
+use Rattle.dct.specs.Transform.{factor, factors, element}
 
 -- t(k,n) is the cosine of this many sixteenths of π
 abbrev pub angle : ℕ → ℕ → ℕ
@@ -30,6 +30,10 @@ pub eight-factors : (d p q : ℕ) → Eight (factors d p q)
 unfolding factors
 eight-factors zero p q = eight-only (pos 1) 0
 eight-factors (suc d) p q = eight-mul (eight-factors d (p / 8) (q / 8)) (eight-factor (p % 8) (q % 8))
+
+pub eight-element : (d : ℕ) (x : ℕ → ℤ) (p : ℕ) → Eight (element d x p)
+unfolding element
+eight-element d x p = eight-sum (8 ^ d) (λ q. scale (x q) (factors d p q)) (one-le-pow d 8 (zero-lt-suc 7)) (λ q h. eight-scale (x q) (eight-factors d p q))
 
 -- the product of two factors by their angles: a computed test of it multiplies nothing out
 unfoldable pub angle-product : ℕ → ℕ → List ℤ

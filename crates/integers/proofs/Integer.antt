@@ -3,11 +3,12 @@
 -- +, -, *, ≡ and ≤ over to naturals, and each law is then one call of `omega`.
 -- Assumes nothing.
 use mathlib.Core.Path.{_≡_, sym, ap, _∙_}
-use mathlib.Core.Logic.{_↔_}
+use mathlib.Core.Logic.{_↔_, _⊎_, inl, inr}
 use mathlib.Core.Bool.{Bool, true, false, not, cond}
 use Prim.Native.Nat.{ℕ, zero, suc, _+_, _*_, _-_, _≤_, _<_}
-use native.Mathlib.Omega.{arith}
 use native.Mathlib.Nat.{eq-of-mul-eq-mul-left, mul-le-mul-left}
+use native.Mathlib.Decide.{decLe}
+use native.Mathlib.Omega.{arith}
 use lib.Dec.{T, ltb, ltb→lt, nltb→le, leb→le, le→leb}
 use lib.IntN.{ℤ, pos, negsuc, subℕ, _+ℤ_, _-ℤ_, _*ℤ_, negℤ, natAbs}
 use lib.Signed.{_≤ℤ_}
@@ -175,6 +176,13 @@ pub ≤ℤ-antisym : {a b : ℤ} → a ≤ℤ b → b ≤ℤ a → a ≡ b
     let p = le-parts a b .0 h in
     let q = le-parts b a .0 k in
     rw (parts a, parts b) (dif-same _ _ _ _ (omega arith))
+
+pub ≤ℤ-total : (a b : ℤ) → (a ≤ℤ b) ⊎ (b ≤ℤ a)
+≤ℤ-total a b = go (decLe (up a + down b) (up b + down a))
+  where
+    go : Dec (up a + down b ≤ up b + down a) → (a ≤ℤ b) ⊎ (b ≤ℤ a)
+    go (yes h) = inl (le-parts a b .1 h)
+    go (no n) = inr (le-parts b a .1 (omega arith))
 
 pub +ℤ-≤ℤ : {a b c d : ℤ} → a ≤ℤ b → c ≤ℤ d → (a +ℤ c) ≤ℤ (b +ℤ d)
 +ℤ-≤ℤ {a} {b} {c} {d} h k =
