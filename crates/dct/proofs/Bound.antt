@@ -11,20 +11,20 @@ use lib.IntN.{ℤ, pos}
 use Rattle.integers.specs.Sum.{sum}
 use Rattle.integers.proofs.Sums.{naturals, sum-cong, sum-map, sum-le}
 use Rattle.integers.proofs.Tests.{every, every-at, every₂, every₂-at}
-use Rattle.ring.specs.Element.{scale, only, cosine, basis-product, mul, magnitude}
+use Rattle.ring.specs.Element.{scale, only, cosine, basis-product, mul, magnitudes}
 use Rattle.ring.proofs.Product.{mul-left}
 use Rattle.ring.proofs.Components.{Eight}
-use Rattle.ring.proofs.Magnitude.{magnitude-scale, magnitude-sum, magnitude-linear}
+use Rattle.ring.proofs.Magnitude.{magnitudes-scale, magnitudes-sum, magnitudes-linear}
 use Rattle.ring.proofs.Ring.{mul-one}
-use Rattle.dct.specs.Limits.{sample-limit, magnitude-limit}
-use Rattle.dct.specs.Transform.{factor, factors, element, InRange}
+use Rattle.dct.specs.Limits.{sample-limit, magnitudes-limit}
+use Rattle.dct.specs.Transform.{factor, factors, element, Bounded}
 use Rattle.dct.proofs.Factors.{eight-factor, eight-factors, factors-place, sum-digits}
 
 -- ---- one dimension
 
 -- the eight factors of a frequency
 factor-at : ℕ → Bool
-factor-at k = leb (sum 0 _+_ 8 (λ n. magnitude (factor k n))) 8
+factor-at k = leb (sum 0 _+_ 8 (λ n. magnitudes (factor k n))) 8
 
 factor-test : T (every 8 factor-at)
 unfolding sum factor-at factor cosine
@@ -32,28 +32,28 @@ factor-test = tt
 
 -- their products with a basis element, and then with any element
 times-factor-at : ℕ → ℕ → Bool
-times-factor-at k j = leb (sum 0 _+_ 8 (λ n. magnitude (mul (only (pos 1) j) (factor k n)))) 16
+times-factor-at k j = leb (sum 0 _+_ 8 (λ n. magnitudes (mul (only (pos 1) j) (factor k n)))) 16
 
 times-factor-test : T (every₂ 8 times-factor-at)
 unfolding sum times-factor-at factor cosine basis-product mul
 times-factor-test = tt
 
-times-factor : (k : ℕ) → k < 8 → {a : List ℤ} → Eight a → sum 0 _+_ 8 (λ n. magnitude (mul a (factor k n))) ≤ 16 * magnitude a
+times-factor : (k : ℕ) → k < 8 → {a : List ℤ} → Eight a → sum 0 _+_ 8 (λ n. magnitudes (mul a (factor k n))) ≤ 16 * magnitudes a
 unfolding times-factor-at
 times-factor k h e =
-    magnitude-linear 8 16 (λ n b. mul b (factor k n)) (λ n. mul-left (factor k n))
+    magnitudes-linear 8 16 (λ n b. mul b (factor k n)) (λ n. mul-left (factor k n))
     (λ j l. leb→le _ 16 (every₂-at 8 times-factor-at times-factor-test k j h l)) e
 
 -- ---- d dimensions
 
 -- the magnitudes of all the factors that make one element
 weight : ℕ → ℕ → ℕ
-weight d p = sum 0 _+_ (8 ^ d) (λ q. magnitude (factors d p q))
+weight d p = sum 0 _+_ (8 ^ d) (λ q. magnitudes (factors d p q))
 
 weight-one : (p : ℕ) → weight 1 p ≤ 8
 unfolding weight factor-at factors
 weight-one p =
-    rw (sum-cong 0 _+_ 8 (λ q. magnitude (factors 1 p q)) (λ n. magnitude (factor (p % 8) n)) (λ n h. ap magnitude (only-factor n h)))
+    rw (sum-cong 0 _+_ 8 (λ q. magnitudes (factors 1 p q)) (λ n. magnitudes (factor (p % 8) n)) (λ n h. ap magnitudes (only-factor n h)))
     (leb→le _ 8 (every-at 8 factor-at factor-test (p % 8) (mod-lt p (zero-lt-suc 7))))
   where
     only-factor : (n : ℕ) → n < 8 → factors 1 p n ≡ factor (p % 8) n
@@ -62,32 +62,32 @@ weight-one p =
 weight-suc : (d p : ℕ) → weight (suc d) p ≤ 16 * weight d (p / 8)
 unfolding weight
 weight-suc d p =
-    le-trans (le-of-eq (sum-digits 0 _+_ naturals d (λ q. magnitude (factors (suc d) p q))))
-    (le-trans (sum-le (8 ^ d) _ (λ q. 16 * magnitude (factors d (p / 8) q)) (λ q h. last-digit q))
-    (le-of-eq (sym (sum-map 0 _+_ 0 _+_ (λ t. 16 * t) refl (mul-add 16) (8 ^ d) (λ q. magnitude (factors d (p / 8) q))))))
+    le-trans (le-of-eq (sum-digits 0 _+_ naturals d (λ q. magnitudes (factors (suc d) p q))))
+    (le-trans (sum-le (8 ^ d) _ (λ q. 16 * magnitudes (factors d (p / 8) q)) (λ q h. last-digit q))
+    (le-of-eq (sym (sum-map 0 _+_ 0 _+_ (λ t. 16 * t) refl (mul-add 16) (8 ^ d) (λ q. magnitudes (factors d (p / 8) q))))))
   where
-    last-digit : (q : ℕ) → sum 0 _+_ 8 (λ n. magnitude (factors (suc d) p (q * 8 + n))) ≤ 16 * magnitude (factors d (p / 8) q)
+    last-digit : (q : ℕ) → sum 0 _+_ 8 (λ n. magnitudes (factors (suc d) p (q * 8 + n))) ≤ 16 * magnitudes (factors d (p / 8) q)
     last-digit q =
-        rw (sum-cong 0 _+_ 8 _ (λ n. magnitude (mul (factors d (p / 8) q) (factor (p % 8) n))) (λ n h. ap magnitude (factors-place d p q n h)))
+        rw (sum-cong 0 _+_ 8 _ (λ n. magnitudes (mul (factors d (p / 8) q) (factor (p % 8) n))) (λ n h. ap magnitudes (factors-place d p q n h)))
         (times-factor (p % 8) (mod-lt p (zero-lt-suc 7)) (eight-factors d (p / 8) q))
 
 weight-le : (d p : ℕ) → weight (suc d) p ≤ 8 * 16 ^ d
 weight-le zero p = weight-one p
 weight-le (suc d) p = rw (pow-suc 16 d) (omega (arith, weight-suc (suc d) p, weight-le d (p / 8)))
 
-pub bound : (d S : ℕ) (x : ℕ → ℤ) → InRange (suc d) S x → (p : ℕ) → magnitude (element (suc d) x p) ≤ S * (8 * 16 ^ d)
+pub bound : (d S : ℕ) (x : ℕ → ℤ) → Bounded (suc d) S x → (p : ℕ) → magnitudes (element (suc d) x p) ≤ S * (8 * 16 ^ d)
 unfolding element weight
 bound d S x h p =
-    le-trans (magnitude-sum n (λ q. scale (x q) (factors (suc d) p q)))
-    (le-trans (sum-le n _ (λ q. S * of q) (λ q k. rw (magnitude-scale (x q) (factors (suc d) p q)) (mul-le-mul-right (of q) (h q k))))
+    le-trans (magnitudes-sum n (λ q. scale (x q) (factors (suc d) p q)))
+    (le-trans (sum-le n _ (λ q. S * of q) (λ q k. rw (magnitudes-scale (x q) (factors (suc d) p q)) (mul-le-mul-right (of q) (h q k))))
     (le-trans (le-of-eq (sym (sum-map 0 _+_ 0 _+_ (λ t. S * t) (mul-zero S) (mul-add S) n of))) (mul-le-mul-left S (weight-le d p))))
   where
     n : ℕ
     n = 8 ^ suc d
 
     of : ℕ → ℕ
-    of q = magnitude (factors (suc d) p q)
+    of q = magnitudes (factors (suc d) p q)
 
 -- 01's limits: two dimensions, samples of magnitude 2,048 at most, magnitudes that sum to at most 262,144
-pub bound-8-by-8 : (x : ℕ → ℤ) → InRange 2 sample-limit x → (p : ℕ) → magnitude (element 2 x p) ≤ magnitude-limit
+pub bound-8-by-8 : (x : ℕ → ℤ) → Bounded 2 sample-limit x → (p : ℕ) → magnitudes (element 2 x p) ≤ magnitudes-limit
 bound-8-by-8 x h p = bound 1 sample-limit x h p

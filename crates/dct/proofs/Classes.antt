@@ -11,8 +11,8 @@ use Rattle.integers.proofs.Sums.{integers, sum-cong, sum-map, sum-none}
 use Rattle.integers.proofs.Tests.{every, every-at, every₂, every₂-at, eqZ, eqZ→≡}
 use Rattle.ring.specs.Element.{component, add, scale, cosine, mul}
 use Rattle.ring.proofs.Components.{component-add, component-scale}
-use Rattle.dct.specs.Transform.{factor, double-sum, components-at, among}
-use Rattle.dct.proofs.Factors.{angle, angle-product, factor-product}
+use Rattle.dct.specs.Transform.{angle, factor, double-sum, components-at, among}
+use Rattle.dct.proofs.Factors.{angle-product, factor-product}
 
 -- component k of t(u,i) × t(v,j) is allowed or 0
 component-at : List ℕ → List ℤ → ℕ → Bool

@@ -1,6 +1,6 @@
--- The factors: as cosines, with all of their components, and by the digits of their indices.
+-- The factors: with all of their components, their products, and by the digits of their indices.
 -- Assumes nothing.
-use mathlib.Core.Path.{_≡_, refl}
+use mathlib.Core.Path.{_≡_}
 use mathlib.Core.List.{List}
 use Prim.Native.Nat.{ℕ, zero, suc, _+_, _*_, _/_, _%_, _^_, _<_}
 use native.Mathlib.Nat.{pow-suc, one-le-pow, zero-lt-suc}
@@ -11,20 +11,11 @@ use Rattle.integers.proofs.Sums.{CommutativeMonoid, sum-blocks}
 use Rattle.ring.specs.Element.{add, scale, cosine, mul}
 use Rattle.ring.proofs.Components.{Eight, eight-only, eight-cosine, eight-scale, eight-sum, eight-mul}
 use Rattle.ring.proofs.Cosines.{cosine-product}
-use Rattle.dct.specs.Transform.{factor, factors, element}
-
--- t(k,n) is the cosine of this many sixteenths of π
-abbrev pub angle : ℕ → ℕ → ℕ
-angle zero n = 4
-angle (suc k) n = (2 * n + 1) * suc k
-
-factor-cosine : (k n : ℕ) → factor k n ≡ cosine (pos (angle k n))
-unfolding factor
-factor-cosine zero n = refl
-factor-cosine (suc k) n = refl
+use Rattle.dct.specs.Transform.{angle, factor, factors, element, double-sum}
 
 pub eight-factor : (k n : ℕ) → Eight (factor k n)
-eight-factor k n = rw (factor-cosine k n) (eight-cosine (pos (angle k n)))
+unfolding factor
+eight-factor k n = eight-cosine (pos (angle k n))
 
 pub eight-factors : (d p q : ℕ) → Eight (factors d p q)
 unfolding factors
@@ -35,13 +26,18 @@ pub eight-element : (d : ℕ) (x : ℕ → ℤ) (p : ℕ) → Eight (element d x
 unfolding element
 eight-element d x p = eight-sum (8 ^ d) (λ q. scale (x q) (factors d p q)) (one-le-pow d 8 (zero-lt-suc 7)) (λ q h. eight-scale (x q) (eight-factors d p q))
 
+pub eight-double-sum : (x : ℕ → ℕ → ℤ) (u v : ℕ) → Eight (double-sum x u v)
+unfolding double-sum
+eight-double-sum x u v =
+    eight-sum 8 _ (zero-lt-suc 7) (λ i h. eight-sum 8 _ (zero-lt-suc 7) (λ j k. eight-scale (x i j) (eight-mul (eight-factor _ _) (eight-factor _ _))))
+
 -- the product of two factors by their angles: a computed test of it multiplies nothing out
 unfoldable pub angle-product : ℕ → ℕ → List ℤ
 angle-product a b = add (cosine (pos a +ℤ pos b)) (cosine (pos a -ℤ pos b))
 
 pub factor-product : (k n l m : ℕ) → mul (factor k n) (factor l m) ≡ angle-product (angle k n) (angle l m)
-unfolding angle-product
-factor-product k n l m = rw (factor-cosine k n, factor-cosine l m) (cosine-product (pos (angle k n)) (pos (angle l m)))
+unfolding factor angle-product
+factor-product k n l m = cosine-product (pos (angle k n)) (pos (angle l m))
 
 -- ---- by the last digit of an index
 

@@ -13,16 +13,13 @@ use Rattle.ring.specs.Element.{component, add, scale, number, mul}
 use Rattle.ring.proofs.Linear.{elements, linear-sum, linear-scale}
 use Rattle.ring.proofs.Product.{mul-left}
 use Rattle.ring.proofs.Ring.{scale-number}
+use Rattle.dct.specs.Inverse.{returned, gram, delta}
 use Rattle.dct.specs.Transform.{factors, element}
-use Rattle.dct.proofs.Orthogonal.{grams, delta, delta-same, delta-other, orthogonal}
-
--- the sum over all numbers p of the element e p × its factors at place r
-unfoldable pub returned : ℕ → (ℕ → List ℤ) → ℕ → List ℤ
-returned d e r = sum [] add (8 ^ d) (λ p. mul (e p) (factors d p r))
+use Rattle.dct.proofs.Orthogonal.{delta-same, delta-other, orthogonal}
 
 -- each sample, times what the factors of its place and of place r give
-returned-samples : (d : ℕ) (x : ℕ → ℤ) (r : ℕ) → returned d (element d x) r ≡ sum [] add (8 ^ d) (λ q. scale (x q) (grams d q r))
-unfolding returned element grams
+returned-samples : (d : ℕ) (x : ℕ → ℤ) (r : ℕ) → returned d (element d x) r ≡ sum [] add (8 ^ d) (λ q. scale (x q) (gram d q r))
+unfolding returned element gram
 returned-samples d x r =
     sum-cong [] add n _ (λ p. sum [] add n (term p)) (λ p h. by-samples p) ∙ sum-swap [] add elements n n term
     ∙ sum-cong [] add n _ _ (λ q h. sym (linear-sum (scale (x q)) (linear-scale (x q)) n (λ p. mul (factors d p q) (factors d p r))))

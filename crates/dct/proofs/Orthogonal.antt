@@ -1,13 +1,13 @@
 -- The factors are orthogonal: in one dimension by a computed test, in d dimensions by induction.
 -- Assumes nothing.
 use mathlib.Core.Path.{_≡_, sym, ap, ap₂, _∙_}
-use mathlib.Core.Bool.{Bool, cond}
+use mathlib.Core.Bool.{Bool}
 use mathlib.Core.List.{List, []}
 use Prim.Native.Nat.{ℕ, zero, suc, _+_, _*_, _/_, _%_, _^_, _<_}
 use native.Mathlib.Nat.{pow-suc}
 use native.Mathlib.Decide.{ℕ-discrete}
 use native.Mathlib.Omega.{arith}
-use lib.Dec.{T, eqb}
+use lib.Dec.{T}
 use lib.IntN.{ℤ, pos, _*ℤ_, zero-*ℤ, *ℤ-zero}
 use borrow.Author.Tests.{eq-eqb, ne-eqb}
 use Rattle.integers.specs.Sum.{sum}
@@ -18,13 +18,11 @@ use Rattle.ring.proofs.Linear.{elements, linear-sum}
 use Rattle.ring.proofs.Product.{mul-left, mul-right, mul-swap}
 use Rattle.ring.proofs.Components.{eight-only}
 use Rattle.ring.proofs.Ring.{mul-one, mul-number, scale-number}
-use Rattle.dct.specs.Transform.{factor, factors}
-use Rattle.dct.proofs.Factors.{angle, angle-product, factor-product, factors-frequency, sum-digits}
+use Rattle.dct.specs.Inverse.{gram, delta}
+use Rattle.dct.specs.Transform.{angle, factor, factors}
+use Rattle.dct.proofs.Factors.{angle-product, factor-product, factors-frequency, sum-digits}
 
--- ---- 16^d where q = r, and 0 otherwise
-
-unfoldable pub delta : ℕ → ℕ → ℕ → ℤ
-delta d q r = cond (eqb q r) (pos (16 ^ d)) (pos 0)
+-- ---- the values 16^d and 0
 
 pub delta-same : (d q r : ℕ) → q ≡ r → delta d q r ≡ pos (16 ^ d)
 unfolding delta
@@ -52,53 +50,49 @@ delta-suc d q r = go (ℕ-discrete (q / 8) (r / 8)) (ℕ-discrete (q % 8) (r % 8
 -- ---- one dimension
 
 -- the sum over all frequencies k of t(k,n) × t(k,m)
-gram : ℕ → ℕ → List ℤ
-gram n m = sum [] add 8 (λ k. mul (factor k n) (factor k m))
+row-gram : ℕ → ℕ → List ℤ
+row-gram n m = sum [] add 8 (λ k. mul (factor k n) (factor k m))
 
-gram-at : ℕ → ℕ → Bool
-gram-at n m = eqList (sum [] add 8 (λ k. angle-product (angle k n) (angle k m))) (number (delta 1 n m))
+row-gram-at : ℕ → ℕ → Bool
+row-gram-at n m = eqList (sum [] add 8 (λ k. angle-product (angle k n) (angle k m))) (number (delta 1 n m))
 
-gram-test : T (every₂ 8 gram-at)
-unfolding sum gram-at delta angle-product cosine
-gram-test = tt
+row-gram-test : T (every₂ 8 row-gram-at)
+unfolding sum row-gram-at delta angle-product cosine
+row-gram-test = tt
 
-gram-is : (n m : ℕ) → n < 8 → m < 8 → gram n m ≡ number (delta 1 n m)
-unfolding gram gram-at
-gram-is n m h k = sum-cong [] add 8 _ _ (λ k l. factor-product k n k m) ∙ eqList→≡ _ _ (every₂-at 8 gram-at gram-test n m h k)
+row-gram-is : (n m : ℕ) → n < 8 → m < 8 → row-gram n m ≡ number (delta 1 n m)
+unfolding row-gram row-gram-at
+row-gram-is n m h k = sum-cong [] add 8 _ _ (λ k l. factor-product k n k m) ∙ eqList→≡ _ _ (every₂-at 8 row-gram-at row-gram-test n m h k)
 
 -- ---- d dimensions
-
--- the sum over all numbers p of factors p q × factors p r
-unfoldable pub grams : ℕ → ℕ → ℕ → List ℤ
-grams d q r = sum [] add (8 ^ d) (λ p. mul (factors d p q) (factors d p r))
 
 -- one dimension more is one factor more
 module _ (d q r : ℕ) where
   both : ℕ → List ℤ
   both p = mul (factors d p (q / 8)) (factors d p (r / 8))
 
-  last-digit : (p : ℕ) → sum [] add 8 (λ k. mul (factors (suc d) (p * 8 + k) q) (factors (suc d) (p * 8 + k) r)) ≡ mul (both p) (gram (q % 8) (r % 8))
-  unfolding both gram
+  last-digit : (p : ℕ) → sum [] add 8 (λ k. mul (factors (suc d) (p * 8 + k) q) (factors (suc d) (p * 8 + k) r)) ≡ mul (both p) (row-gram (q % 8) (r % 8))
+  unfolding both row-gram
   last-digit p =
       sum-cong [] add 8 _ (λ k. mul (both p) (mul (factor k (q % 8)) (factor k (r % 8))))
       (λ k h. ap₂ mul (factors-frequency d p k q h) (factors-frequency d p k r h) ∙ mul-swap (factors d p (q / 8)) (factor k (q % 8)) (factors d p (r / 8)) (factor k (r % 8)))
       ∙ sym (linear-sum (mul (both p)) (mul-right (both p)) 8 (λ k. mul (factor k (q % 8)) (factor k (r % 8))))
 
-  grams-suc : grams (suc d) q r ≡ mul (grams d (q / 8) (r / 8)) (gram (q % 8) (r % 8))
-  unfolding grams both
-  grams-suc =
-      let g = gram (q % 8) (r % 8) in
+  gram-suc : gram (suc d) q r ≡ mul (gram d (q / 8) (r / 8)) (row-gram (q % 8) (r % 8))
+  unfolding gram both
+  gram-suc =
+      let g = row-gram (q % 8) (r % 8) in
       sum-digits [] add elements d (λ p. mul (factors (suc d) p q) (factors (suc d) p r))
       ∙ sum-cong [] add (8 ^ d) _ (λ p. mul (both p) g) (λ p h. last-digit p)
       ∙ sym (linear-sum (λ a. mul a g) (mul-left g) (8 ^ d) both)
 
-pub orthogonal : (d q r : ℕ) → q < 8 ^ d → r < 8 ^ d → grams d q r ≡ number (delta d q r)
-unfolding sum grams factors
+pub orthogonal : (d q r : ℕ) → q < 8 ^ d → r < 8 ^ d → gram d q r ≡ number (delta d q r)
+unfolding sum gram factors
 orthogonal zero q r h k = mul-one (eight-only (pos 1) 0) ∙ sym (ap number (delta-same 0 q r (omega arith)))
 orthogonal (suc d) q r h k =
     let last = delta 1 (q % 8) (r % 8) in
-    grams-suc d q r
-    ∙ ap₂ mul (orthogonal d (q / 8) (r / 8) (first-digits h) (first-digits k)) (gram-is (q % 8) (r % 8) (omega arith) (omega arith))
+    gram-suc d q r
+    ∙ ap₂ mul (orthogonal d (q / 8) (r / 8) (first-digits h) (first-digits k)) (row-gram-is (q % 8) (r % 8) (omega arith) (omega arith))
     ∙ mul-number (delta d (q / 8) (r / 8)) (eight-only last 0) ∙ scale-number (delta d (q / 8) (r / 8)) last ∙ ap number (delta-suc d q r)
   where
     first-digits : {n : ℕ} → n < 8 ^ suc d → n / 8 < 8 ^ d

@@ -1,3 +1,4 @@
+pub mod Inverse
 pub mod Limits
 pub mod T81
 pub mod Transform

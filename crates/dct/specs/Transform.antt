@@ -1,6 +1,7 @@
 -- The exact cosine transform (01, "Elements"), for blocks of any number of dimensions.
 -- A block of d dimensions has 8^d samples, x 0 to x (8^d - 1). The base-8 digits of a sample's index are its places along the
--- dimensions, those of an element's index its frequencies: in two dimensions sample (i,j) is x (8i+j), and element (u,v) is number 8u+v.
+-- dimensions, those of an element's index its frequencies: in two dimensions sample (i,j), row i and column j, is x (8i+j), and the
+-- element at (u,v), u counting down and v across, has the index 8u+v.
 use mathlib.Core.Bool.{Bool, false, cond, _&&_, _||_}
 use mathlib.Core.List.{List, [], _∷_}
 use Prim.Native.Nat.{ℕ, zero, suc, _+_, _*_, _/_, _%_, _^_, _≤_, _<_}
@@ -9,17 +10,21 @@ use lib.IntN.{ℤ, pos, natAbs}
 use Rattle.integers.specs.Sum.{sum}
 use Rattle.ring.specs.Element.{add, scale, number, cosine, mul}
 
--- t(k,n), the factor of frequency k at sample place n: c_4 where k = 0, and c_((2n+1)·k) otherwise
-unfoldable pub factor : ℕ → ℕ → List ℤ
-factor zero n = cosine (pos 4)
-factor (suc k) n = cosine (pos ((2 * n + 1) * suc k))
+-- the index of the cosine that 01's factor t(k,n) is: 4 where k = 0, and (2n+1)·k otherwise
+abbrev pub angle : ℕ → ℕ → ℕ
+angle zero n = 4
+angle (suc k) n = (2 * n + 1) * suc k
 
--- the product of the factors along d dimensions
+-- t(k,n), for frequency k and sample place n
+unfoldable pub factor : ℕ → ℕ → List ℤ
+factor k n = cosine (pos (angle k n))
+
+-- the product of the factors along d dimensions, of the frequencies in p and the places in q
 unfoldable pub factors : ℕ → ℕ → ℕ → List ℤ
 factors zero p q = number (pos 1)
 factors (suc d) p q = mul (factors d (p / 8) (q / 8)) (factor (p % 8) (q % 8))
 
--- the exact element of the block x at number p: the sum over all samples of sample × factors
+-- the exact element of the block x at index p: the sum over all samples of sample × factors
 unfoldable pub element : ℕ → (ℕ → ℤ) → ℕ → List ℤ
 element d x p = sum [] add (8 ^ d) (λ q. scale (x q) (factors d p q))
 
@@ -31,20 +36,21 @@ double-sum x u v = sum [] add 8 (λ i. sum [] add 8 (λ j. scale (x i j) (mul (f
 unfoldable pub step : (ℕ → List ℤ) → ℕ → List ℤ
 step r k = sum [] add 8 (λ n. mul (r n) (factor k n))
 
--- no sample of a block of d dimensions has a magnitude above S
-abbrev pub InRange : ℕ → ℕ → (ℕ → ℤ) → Type 0
-InRange d S x = (q : ℕ) → q < 8 ^ d → natAbs (x q) ≤ S
+-- no sample of the block x of d dimensions has a magnitude above S
+abbrev pub Bounded : ℕ → ℕ → (ℕ → ℤ) → Type 0
+Bounded d S x = (q : ℕ) → q < 8 ^ d → natAbs (x q) ≤ S
 
 -- ---- which components of the element at (u,v) may be non-zero (01, "Consequences to be shown")
 
+-- an odd frequency
 abbrev odd : ℕ → Bool
 odd k = eqb (k % 2) 1
 
--- of the even frequencies, 2 and 6; the others are 0 and 4
+-- 2 or 6; the other even frequencies are 0 and 4
 abbrev two-or-six : ℕ → Bool
 two-or-six k = eqb (k % 4) 2
 
--- their indices, rising
+-- the indices of those components, rising
 unfoldable pub components-at : ℕ → ℕ → List ℕ
 components-at u v =
     cond (odd u && odd v) (0 ∷ 2 ∷ 4 ∷ 6 ∷ [])

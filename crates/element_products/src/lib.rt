@@ -18,5 +18,5 @@ pub extern "C" fn element_product(k: usize, j: usize, i: usize) -> i32
         return 0;
     }
     let product = elements::times(elements::only(1, j), k);
-    product.parts[i]
+    product.components[i]
 }

@@ -1,4 +1,4 @@
 -- What the operations on elements mean, and how far they let components grow.
-pub mod Parts
+pub mod Componentwise
 pub mod Products
 pub mod Bounds

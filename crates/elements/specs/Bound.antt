@@ -1,4 +1,4 @@
--- Bounds on an element's components, under which its operations stay within 32 bits.
+-- Bounds under which the operations on elements, whose components 01 has in signed 32-bit numbers, do not wrap.
 use mathlib.Core.List.{List}
 use Prim.Native.Nat.{ℕ, _-_, _^_, _≤_}
 use lib.IntN.{ℤ, natAbs}
@@ -8,6 +8,6 @@ use Rattle.ring.specs.Element.{component}
 pub record Within (B : ℕ) (a : List ℤ) : Type 0 where
   pub within : (k : ℕ) → natAbs (component a k) ≤ B
 
--- the largest magnitude of which any two numbers have their sum and their difference within an i32
+-- the largest B for which the sum and the difference of any two numbers of magnitude at most B fit an i32
 abbrev pub headroom : ℕ
 headroom = 2 ^ 30 - 1

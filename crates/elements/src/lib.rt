@@ -15,51 +15,51 @@ use integers::plus;
 
 // The eight components, u_0 first.
 pub struct Element {
-    pub parts: [i32; 8],
+    pub components: [i32; 8],
 }
 
 // The element with s at component k and 0 at the others: s·c_k, or the whole number s where k is 0.
 pub fn only(s: i32, k: usize) -> Element
     requires { ⌜ k < 8 ⌝ }
-    ensures { λ r. ⌜ r .parts ≡ ring.only s k ⌝ }
+    ensures { λ r. ⌜ r .components ≡ ring.only s k ⌝ }
 {
-    let mut parts = [0i32; 8];
-    parts[k] = s;
-    Element { parts }
+    let mut components = [0i32; 8];
+    components[k] = s;
+    Element { components }
 }
 
 // a + b
 pub fn add(a: Element, b: Element) -> Element
-    requires { ⌜ Within headroom (a .parts) ⌝ }
-    requires { ⌜ Within headroom (b .parts) ⌝ }
-    ensures { λ r. ⌜ r .parts ≡ ring.add (a .parts) (b .parts) ⌝ }
+    requires { ⌜ Within headroom (a .components) ⌝ }
+    requires { ⌜ Within headroom (b .components) ⌝ }
+    ensures { λ r. ⌜ r .components ≡ ring.add (a .components) (b .components) ⌝ }
 {
-    let x = a.parts;
-    let y = b.parts;
+    let x = a.components;
+    let y = b.components;
     let mut r = [0i32; 8];
     let mut i = 0;
     while i < 8 {
         r[i] = plus(x[i], y[i]);
         i += 1;
     }
-    Element { parts: r }
+    Element { components: r }
 }
 
 // a - b
 pub fn subtract(a: Element, b: Element) -> Element
-    requires { ⌜ Within headroom (a .parts) ⌝ }
-    requires { ⌜ Within headroom (b .parts) ⌝ }
-    ensures { λ r. ⌜ r .parts ≡ ring.subtract (a .parts) (b .parts) ⌝ }
+    requires { ⌜ Within headroom (a .components) ⌝ }
+    requires { ⌜ Within headroom (b .components) ⌝ }
+    ensures { λ r. ⌜ r .components ≡ ring.subtract (a .components) (b .components) ⌝ }
 {
-    let x = a.parts;
-    let y = b.parts;
+    let x = a.components;
+    let y = b.components;
     let mut r = [0i32; 8];
     let mut i = 0;
     while i < 8 {
         r[i] = minus(x[i], y[i]);
         i += 1;
     }
-    Element { parts: r }
+    Element { components: r }
 }
 
 // The components u_(-7) to u_14, continued as the cosines are (specs/Spread.antt). They are laid out once for all the products of
@@ -70,11 +70,11 @@ pub struct Spread {
 
 // u_(j-7)
 fn continued(a: Element, j: usize) -> i32
-    requires { ⌜ Within headroom (a .parts) ⌝ }
+    requires { ⌜ Within headroom (a .components) ⌝ }
     requires { ⌜ j < 22 ⌝ }
-    ensures { λ r. ⌜ r ≡ spec.continued (a .parts) j ⌝ }
+    ensures { λ r. ⌜ r ≡ spec.continued (a .components) j ⌝ }
 {
-    let u = a.parts;
+    let u = a.components;
     if j < 7 {
         return u[7 - j];
     }
@@ -88,8 +88,8 @@ fn continued(a: Element, j: usize) -> i32
 }
 
 pub fn spread_of(a: Element) -> Spread
-    requires { ⌜ Within headroom (a .parts) ⌝ }
-    ensures { λ r. ⌜ r .at ≡ spec.spread (a .parts) ⌝ }
+    requires { ⌜ Within headroom (a .components) ⌝ }
+    ensures { λ r. ⌜ r .at ≡ spec.spread (a .components) ⌝ }
 {
     let mut s = [0i32; 22];
     let mut j = 0;
@@ -104,7 +104,7 @@ pub fn spread_of(a: Element) -> Spread
 pub fn product(s: Spread, k: usize) -> Element
     requires { ⌜ Within headroom (s .at) ⌝ }
     requires { ⌜ k < 8 ⌝ }
-    ensures { λ r. ⌜ r .parts ≡ spec.folded (s .at) k ⌝ }
+    ensures { λ r. ⌜ r .components ≡ spec.folded (s .at) k ⌝ }
 {
     let u = s.at;
     let mut r = [0i32; 8];
@@ -113,14 +113,14 @@ pub fn product(s: Spread, k: usize) -> Element
         r[i] = plus(u[7 + i - k], u[7 + i + k]);
         i += 1;
     }
-    Element { parts: r }
+    Element { components: r }
 }
 
 // c_k × a, for k from 0 to 7
 pub fn times(a: Element, k: usize) -> Element
-    requires { ⌜ Within headroom (a .parts) ⌝ }
+    requires { ⌜ Within headroom (a .components) ⌝ }
     requires { ⌜ k < 8 ⌝ }
-    ensures { λ r. ⌜ r .parts ≡ ring.mul (ring.cosine (pos k)) (a .parts) ⌝ }
+    ensures { λ r. ⌜ r .components ≡ ring.mul (ring.cosine (pos k)) (a .components) ⌝ }
 {
     product(spread_of(a), k)
 }

@@ -10,7 +10,7 @@ use native.Mathlib.Nat.{eq-of-mul-eq-mul-left, mul-le-mul-left}
 use native.Mathlib.Decide.{decLe}
 use native.Mathlib.Omega.{arith}
 use lib.Dec.{T, ltb, ltb→lt, nltb→le, leb→le, le→leb}
-use lib.IntN.{ℤ, pos, negsuc, subℕ, _+ℤ_, _-ℤ_, _*ℤ_, negℤ, natAbs}
+use lib.IntN.{ℤ, pos, negsuc, subℕ, _+ℤ_, _-ℤ_, _*ℤ_, negℤ, natAbs, one, *ℤ-one}
 use lib.Signed.{_≤ℤ_}
 
 -- ---- an integer as a difference
@@ -58,9 +58,9 @@ dif-pos n = by-order n zero (λ z. pos n ≡ z) (λ m q. ap pos (omega arith)) (
 dif-negsuc : (n : ℕ) → negsuc n ≡ dif zero (suc n)
 dif-negsuc n = by-order zero (suc n) (λ z. negsuc n ≡ z) (λ m q. absurd (omega arith)) (λ m q. ap negsuc (omega arith))
 
-pub parts : (z : ℤ) → z ≡ dif (up z) (down z)
-parts (pos n) = dif-pos n
-parts (negsuc n) = dif-negsuc n
+pub as-dif : (z : ℤ) → z ≡ dif (up z) (down z)
+as-dif (pos n) = dif-pos n
+as-dif (negsuc n) = dif-negsuc n
 
 -- ---- the operations
 
@@ -127,33 +127,34 @@ same-dif a b c d e =
     let v : down (dif a b) ≡ down (dif c d) = ap down e in
     omega arith
 
--- ---- the ring: each variable by its parts, the rules, and `omega`. What is not here `lib.IntN` has
+-- ---- the ring: each variable as a difference, the rules, and `omega`. What is not here `lib.IntN` has
 
 ruleset difs = (dif-add, dif-mul, dif-neg)
 
 pub *ℤ-assoc : (a b c : ℤ) → (a *ℤ b) *ℤ c ≡ a *ℤ (b *ℤ c)
-*ℤ-assoc a b c = rw (parts a, parts b, parts c) (simp difs (dif-same _ _ _ _ (omega arith)))
+*ℤ-assoc a b c = rw (as-dif a, as-dif b, as-dif c) (simp difs (dif-same _ _ _ _ (omega arith)))
 
 pub *ℤ-+ℤ : (a b c : ℤ) → a *ℤ (b +ℤ c) ≡ a *ℤ b +ℤ a *ℤ c
-*ℤ-+ℤ a b c = rw (parts a, parts b, parts c) (simp difs (dif-same _ _ _ _ (omega arith)))
+*ℤ-+ℤ a b c = rw (as-dif a, as-dif b, as-dif c) (simp difs (dif-same _ _ _ _ (omega arith)))
 
 pub +ℤ-*ℤ : (a b c : ℤ) → (a +ℤ b) *ℤ c ≡ a *ℤ c +ℤ b *ℤ c
-+ℤ-*ℤ a b c = rw (parts a, parts b, parts c) (simp difs (dif-same _ _ _ _ (omega arith)))
++ℤ-*ℤ a b c = rw (as-dif a, as-dif b, as-dif c) (simp difs (dif-same _ _ _ _ (omega arith)))
 
 pub *ℤ-pos1 : (a : ℤ) → a *ℤ pos 1 ≡ a
-*ℤ-pos1 a = rw (parts a, parts (pos 1)) (simp difs (dif-same _ _ _ _ (omega arith)))
+unfolding one
+*ℤ-pos1 a = *ℤ-one a
 
 pub *ℤ-negℤ : (a b : ℤ) → a *ℤ negℤ b ≡ negℤ (a *ℤ b)
-*ℤ-negℤ a b = rw (parts a, parts b) (simp difs (dif-same _ _ _ _ (omega arith)))
+*ℤ-negℤ a b = rw (as-dif a, as-dif b) (simp difs (dif-same _ _ _ _ (omega arith)))
 
 pub minus-one-*ℤ : (a : ℤ) → negsuc 0 *ℤ a ≡ negℤ a
-minus-one-*ℤ a = rw (parts a, parts (negsuc 0)) (simp difs (dif-same _ _ _ _ (omega arith)))
+minus-one-*ℤ a = rw (as-dif a, as-dif (negsuc 0)) (simp difs (dif-same _ _ _ _ (omega arith)))
 
 pub negℤ-sub : (a b : ℤ) → negℤ (a -ℤ b) ≡ b -ℤ a
-negℤ-sub a b = rw (parts a, parts b) (simp difs (dif-same _ _ _ _ (omega arith)))
+negℤ-sub a b = rw (as-dif a, as-dif b) (simp difs (dif-same _ _ _ _ (omega arith)))
 
 pub sub-sub : (a b : ℤ) → a -ℤ (a -ℤ b) ≡ b
-sub-sub a b = rw (parts a, parts b) (simp difs (dif-same _ _ _ _ (omega arith)))
+sub-sub a b = rw (as-dif a, as-dif b) (simp difs (dif-same _ _ _ _ (omega arith)))
 
 -- a positive factor cancels
 pub *ℤ-cancel : {n : ℕ} → 0 < n → {a b : ℤ} → pos n *ℤ a ≡ pos n *ℤ b → a ≡ b
@@ -161,7 +162,7 @@ pub *ℤ-cancel : {n : ℕ} → 0 < n → {a b : ℤ} → pos n *ℤ a ≡ pos n
     let q = same-dif _ _ _ _ (sym (mul-parts (pos n) a) ∙ e ∙ mul-parts (pos n) b) in
     let r : n * (up a + down b) ≡ n * (up b + down a) = omega arith in
     let t = eq-of-mul-eq-mul-left n h (up a + down b) (up b + down a) r in
-    rw (parts a, parts b) (dif-same _ _ _ _ t)
+    rw (as-dif a, as-dif b) (dif-same _ _ _ _ t)
 
 -- ---- the order
 
@@ -175,7 +176,7 @@ pub ≤ℤ-antisym : {a b : ℤ} → a ≤ℤ b → b ≤ℤ a → a ≡ b
 ≤ℤ-antisym {a} {b} h k =
     let p = le-parts a b .0 h in
     let q = le-parts b a .0 k in
-    rw (parts a, parts b) (dif-same _ _ _ _ (omega arith))
+    rw (as-dif a, as-dif b) (dif-same _ _ _ _ (omega arith))
 
 pub ≤ℤ-total : (a b : ℤ) → (a ≤ℤ b) ⊎ (b ≤ℤ a)
 ≤ℤ-total a b = go (decLe (up a + down b) (up b + down a))
@@ -188,15 +189,15 @@ pub +ℤ-≤ℤ : {a b c d : ℤ} → a ≤ℤ b → c ≤ℤ d → (a +ℤ c) �
 +ℤ-≤ℤ {a} {b} {c} {d} h k =
     let p = le-parts a b .0 h in
     let q = le-parts c d .0 k in
-    rw (parts a, parts b, parts c, parts d) (simp difs (dif-le _ _ _ _ .1 (omega arith)))
+    rw (as-dif a, as-dif b, as-dif c, as-dif d) (simp difs (dif-le _ _ _ _ .1 (omega arith)))
 
 pub negℤ-≤ℤ : {a b : ℤ} → a ≤ℤ b → negℤ b ≤ℤ negℤ a
 negℤ-≤ℤ {a} {b} h =
     let p = le-parts a b .0 h in
-    rw (parts a, parts b) (simp difs (dif-le _ _ _ _ .1 (omega arith)))
+    rw (as-dif a, as-dif b) (simp difs (dif-le _ _ _ _ .1 (omega arith)))
 
 -- a factor that is not negative keeps the order
 pub *ℤ-≤ℤ : (n : ℕ) {a b : ℤ} → a ≤ℤ b → (pos n *ℤ a) ≤ℤ (pos n *ℤ b)
 *ℤ-≤ℤ n {a} {b} h =
     let p = le-parts a b .0 h in
-    rw (parts a, parts b, parts (pos n)) (simp difs (dif-le _ _ _ _ .1 (omega (arith, mul-le-mul-left n p))))
+    rw (as-dif a, as-dif b, as-dif (pos n)) (simp difs (dif-le _ _ _ _ .1 (omega (arith, mul-le-mul-left n p))))

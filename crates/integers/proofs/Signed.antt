@@ -3,13 +3,13 @@
 -- Assumes nothing.
 use mathlib.Core.Path.{_≡_, ap₂, _∙_}
 use Prim.Native.Nat.{ℕ, _+_, _^_, _≤_, _<_}
-use native.Mathlib.Nat.{lt-of-le-of-lt}
+use native.Mathlib.Nat.{lt-of-le-of-lt, lt-trans}
 use native.Mathlib.Omega.{arith}
 use lib.Dec.{lit<}
 use lib.IntN.{ℤ, pos, _-ℤ_, negℤ, natAbs, +ℤ-idl}
 use lib.Signed.{natAbs-le}
 use mir.Syntax.{Width, w32, w64}
-use mir.Val.{SFits, hbits, ofZ, toZ}
+use mir.Val.{Fits, SFits, hbits, ofZ, toZ}
 use mir.ValLaws.{toZ-ofZ}
 use Rattle.integers.proofs.Magnitudes.{natAbs-sub, small-fits}
 
@@ -35,6 +35,9 @@ module _ (op : ℤ → ℤ → ℤ) (small : (x y : ℤ) → natAbs (op x y) ≤
 module _ (x : ℤ) (h : SFits w32 x) where
   size : natAbs x < 2 ^ hbits w64
   size = lt-of-le-of-lt (natAbs-le x (h .sfits)) (lit< tt)
+
+  pub magnitude-fits : Fits w64 (natAbs x)
+  magnitude-fits = record { fits = lt-trans size (lit< tt) }
 
   pub wide-fits : SFits w64 (toZ w32 (ofZ w32 x))
   wide-fits = rw (toZ-ofZ w32 x h) (small-fits w64 x size)

@@ -10,14 +10,7 @@ use native.Mathlib.Decide.{ℕ-discrete}
 use native.Mathlib.Omega.{arith}
 use lib.Dec.{T, eqb, eqb→eq}
 use lib.IntN.{ℤ, pos, negsuc}
-
-and-left : (a b : Bool) → T (a && b) → T a
-and-left true b t = tt
-and-left false b t = t
-
-and-right : (a b : Bool) → T (a && b) → T b
-and-right true b t = t
-and-right false b t = absurd t
+use mir.Facts.{and-yes}
 
 -- ---- ranges
 
@@ -28,10 +21,10 @@ every (suc n) f = f n && every n f
 
 pub every-at : (n : ℕ) (f : ℕ → Bool) → T (every n f) → (i : ℕ) → i < n → T (f i)
 every-at zero f t i h = absurd (not-suc-le-zero h)
-every-at (suc n) f t i h = go (ℕ-discrete i n) (every-at n f (and-right (f n) (every n f) t) i)
+every-at (suc n) f t i h = go (ℕ-discrete i n) (every-at n f (and-yes (f n) (every n f) t .1) i)
   where
     go : Dec (i ≡ n) → (i < n → T (f i)) → T (f i)
-    go (yes p) rest = rw p (and-left (f n) (every n f) t)
+    go (yes p) rest = rw p (and-yes (f n) (every n f) t .0)
     go (no q) rest = rest (omega arith)
 
 -- two numbers, and three
@@ -71,4 +64,4 @@ pub eqList→≡ : (a b : List ℤ) → T (eqList a b) → a ≡ b
 eqList→≡ [] [] t = refl
 eqList→≡ [] (y ∷ b) t = absurd t
 eqList→≡ (x ∷ a) [] t = absurd t
-eqList→≡ (x ∷ a) (y ∷ b) t = ap₂ _∷_ (eqZ→≡ x y (and-left (eqZ x y) (eqList a b) t)) (eqList→≡ a b (and-right (eqZ x y) (eqList a b) t))
+eqList→≡ (x ∷ a) (y ∷ b) t = ap₂ _∷_ (eqZ→≡ x y (and-yes (eqZ x y) (eqList a b) t .0)) (eqList→≡ a b (and-yes (eqZ x y) (eqList a b) t .1))

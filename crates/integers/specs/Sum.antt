@@ -1,4 +1,4 @@
--- Sums over a range.
+-- Sums over a range, which 01 writes as "the sum over all". They are the same for numbers and for elements.
 use Prim.Native.Nat.{ℕ, zero, suc}
 
 module _ {A : Type 0} (none : A) (plus : A → A → A) where

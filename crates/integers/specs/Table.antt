@@ -1,4 +1,4 @@
--- Lists given by a rule.
+-- Lists given by a rule: how a contract says what a buffer holds.
 use mathlib.Core.List.{List, [], _∷_}
 use Prim.Native.Nat.{ℕ, zero, suc}
 

@@ -16,7 +16,7 @@ use Rattle.integers.specs.Table.{table}
 use Rattle.integers.proofs.Integer.{*ℤ-pos1}
 use Rattle.integers.proofs.Tables.{is-table}
 use Rattle.integers.proofs.Tests.{every, every-at, eqList, eqList→≡}
-use Rattle.ring.specs.Element.{component, add, scale, only, turn, cosine, by-rule, basis-product, combine, mul}
+use Rattle.ring.specs.Element.{component, add, scale, only, full-turn, cosine, by-rule, basis-product, combine, mul}
 use Rattle.ring.proofs.Linear.{Linear, LinearMap, LinearForm, linear-agree, add-nil}
 
 -- ---- elements with all of their components
@@ -45,7 +45,7 @@ pub eight-only : (s : ℤ) (k : ℕ) → Eight (only s k)
 eight-only s k = record { eight = refl }
 
 turn-at : ℕ → Bool
-turn-at r = eqb (length (turn r)) 8
+turn-at r = eqb (length (full-turn r)) 8
 
 turn-test : T (every 32 turn-at)
 unfolding turn-at

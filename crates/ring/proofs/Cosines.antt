@@ -10,7 +10,7 @@ use lib.Dec.{T}
 use lib.IntN.{ℤ, pos, negsuc, _+ℤ_, _-ℤ_, negℤ, +ℤ-comm, +ℤ-assoc, +ℤ-negℤ-cancel, +ℤ-invr, negℤ-+ℤ, negℤ-negℤ}
 use Rattle.integers.proofs.Integer.{sub-sub}
 use Rattle.integers.proofs.Tests.{every₂, every₂-at, eqList, eqList→≡}
-use Rattle.ring.specs.Element.{add, scale, subtract, number, turn, cosine, basis-product, mul}
+use Rattle.ring.specs.Element.{add, negate, subtract, number, full-turn, cosine, basis-product, mul}
 use Rattle.ring.proofs.Linear.{add-comm, scale-scale, scale-one}
 use Rattle.ring.proofs.Product.{cosine-neg, cosine-difference, mul-comm}
 use Rattle.ring.proofs.Components.{eight-cosine}
@@ -23,7 +23,7 @@ record Rule (i j : ℤ) : Type 0 where
 
 -- a turn has 32 steps: the rule at e + s and s
 rule-at : ℕ → ℕ → Bool
-rule-at e s = eqList (mul (turn ((e + s) % 32)) (turn s)) (add (turn (((e + s) % 32 + s) % 32)) (turn e))
+rule-at e s = eqList (mul (full-turn ((e + s) % 32)) (full-turn s)) (add (full-turn (((e + s) % 32 + s) % 32)) (full-turn e))
 
 rule-test : T (every₂ 32 rule-at)
 unfolding rule-at cosine basis-product mul
@@ -81,7 +81,7 @@ unfolding cosine
 cosine-8 = refl
 
 -- from c_8 × c_(8-m) = c_(16-m) + c_m
-pub cosine-16 : (m : ℤ) → cosine (pos 16 -ℤ m) ≡ scale (negsuc 0) (cosine m)
+pub cosine-16 : (m : ℤ) → cosine (pos 16 -ℤ m) ≡ negate (cosine m)
 cosine-16 m = negative-of (eight-cosine (pos 16 -ℤ m)) (eight-cosine m) (sym sum ∙ none)
   where
     k : ℤ
@@ -96,12 +96,12 @@ cosine-16 m = negative-of (eight-cosine (pos 16 -ℤ m)) (eight-cosine m) (sym s
 -- half a turn, twice
 pub cosine-32 : (m : ℤ) → cosine (pos 32 +ℤ m) ≡ cosine m
 cosine-32 m =
-    ap cosine (+ℤ-assoc (pos 16) (pos 16) m) ∙ half-turn (pos 16 +ℤ m) ∙ ap (scale (negsuc 0)) (half-turn m)
+    ap cosine (+ℤ-assoc (pos 16) (pos 16) m) ∙ half-a-turn (pos 16 +ℤ m) ∙ ap negate (half-a-turn m)
     ∙ scale-scale (negsuc 0) (negsuc 0) (cosine m) ∙ scale-one (cosine m)
   where
-    half-turn : (k : ℤ) → cosine (pos 16 +ℤ k) ≡ scale (negsuc 0) (cosine k)
-    half-turn k =
-        ap (λ (z : ℤ). cosine (pos 16 +ℤ z)) (sym (negℤ-negℤ k)) ∙ cosine-16 (negℤ k) ∙ ap (scale (negsuc 0)) (cosine-neg k)
+    half-a-turn : (k : ℤ) → cosine (pos 16 +ℤ k) ≡ negate (cosine k)
+    half-a-turn k =
+        ap (λ (z : ℤ). cosine (pos 16 +ℤ z)) (sym (negℤ-negℤ k)) ∙ cosine-16 (negℤ k) ∙ ap negate (cosine-neg k)
 
 -- ---- the squares that 01's cuts rest on
 

@@ -1,7 +1,7 @@
 -- The product of elements is linear in each factor, commutative and associative. All laws hold of lists of any length.
 -- Assumes nothing.
 use mathlib.Core.Path.{_≡_, refl, sym, ap, ap₂, _∙_}
-use mathlib.Core.Bool.{Bool, true, false, _&&_}
+use mathlib.Core.Bool.{Bool, and-comm}
 use mathlib.Core.List.{List, []}
 use Prim.Native.Nat.{ℕ, zero, suc, _%_, _≤_, _<_}
 use native.Mathlib.Decide.{decLt}
@@ -13,7 +13,7 @@ use Rattle.integers.proofs.Integer.{negℤ-sub}
 use Rattle.integers.proofs.Magnitudes.{natAbs-neg}
 use Rattle.integers.proofs.Sums.{swap}
 use Rattle.integers.proofs.Tests.{every₃, every₃-at, eqList, eqList→≡}
-use Rattle.ring.specs.Element.{add, scale, turn, cosine, by-rule, basis-product, combine, mul}
+use Rattle.ring.specs.Element.{add, scale, full-turn, cosine, by-rule, basis-product, combine, mul}
 use Rattle.ring.proofs.Linear.{LinearMap, linear-combine, linear-combination, combine-cong, combine-nil, combine-swap}
 
 -- ---- commutative
@@ -21,7 +21,7 @@ use Rattle.ring.proofs.Linear.{LinearMap, linear-combine, linear-combin
 -- c_(-m) = c_m
 pub cosine-neg : (m : ℤ) → cosine (negℤ m) ≡ cosine m
 unfolding cosine
-cosine-neg m = ap (λ (n : ℕ). turn (n % 32)) (natAbs-neg m)
+cosine-neg m = ap (λ (n : ℕ). full-turn (n % 32)) (natAbs-neg m)
 
 -- c_(j-i) = c_(i-j)
 pub cosine-difference : (i j : ℤ) → cosine (j -ℤ i) ≡ cosine (i -ℤ j)
@@ -32,12 +32,6 @@ rule-comm zero zero = refl
 rule-comm zero (suc j) = refl
 rule-comm (suc i) zero = refl
 rule-comm (suc i) (suc j) = ap₂ add (ap cosine (+ℤ-comm (pos (suc i)) (pos (suc j)))) (cosine-difference (pos (suc j)) (pos (suc i)))
-
-and-comm : (a b : Bool) → (a && b) ≡ (b && a)
-and-comm true true = refl
-and-comm true false = refl
-and-comm false true = refl
-and-comm false false = refl
 
 product-comm : (i j : ℕ) → basis-product i j ≡ basis-product j i
 unfolding basis-product

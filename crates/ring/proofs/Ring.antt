@@ -9,7 +9,7 @@ use lib.Dec.{T}
 use lib.IntN.{ℤ, pos, negsuc, _*ℤ_, +ℤ-idl, zero-*ℤ, *ℤ-zero}
 use Rattle.integers.proofs.Integer.{*ℤ-pos1}
 use Rattle.integers.proofs.Tests.{every, every-at, eqList, eqList→≡}
-use Rattle.ring.specs.Element.{add, scale, only, number, cosine, basis-product, mul}
+use Rattle.ring.specs.Element.{add, scale, negate, only, number, cosine, basis-product, mul}
 use Rattle.ring.proofs.Linear.{linear-self, add-comm, add-assoc, add-scale, scale-one}
 use Rattle.ring.proofs.Product.{mul-left, mul-right}
 use Rattle.ring.proofs.Components.{Eight, eight-scale, by-components, linear-same}
@@ -32,14 +32,14 @@ scale-zero e = rw (by-components e) (simp zero-*ℤ)
 pub add-zero : {a : List ℤ} → Eight a → add (number (pos 0)) a ≡ a
 add-zero e = rw (by-components e) (simp +ℤ-idl)
 
-pub add-negative : {a : List ℤ} → Eight a → add a (scale (negsuc 0) a) ≡ number (pos 0)
+pub add-negative : {a : List ℤ} → Eight a → add a (negate a) ≡ number (pos 0)
 add-negative {a} e =
-    ap (λ x. add x (scale (negsuc 0) a)) (sym (scale-one a)) ∙ sym (add-scale (pos 1) (negsuc 0) a) ∙ scale-zero e
+    ap (λ x. add x (negate a)) (sym (scale-one a)) ∙ sym (add-scale (pos 1) (negsuc 0) a) ∙ scale-zero e
 
 -- the terms of a sum that is 0 are each other's negative
-pub negative-of : {a b : List ℤ} → Eight a → Eight b → add a b ≡ number (pos 0) → a ≡ scale (negsuc 0) b
+pub negative-of : {a b : List ℤ} → Eight a → Eight b → add a b ≡ number (pos 0) → a ≡ negate b
 negative-of {a} {b} p q e =
-    let n = scale (negsuc 0) b in
+    let n = negate b in
     sym (add-zero p) ∙ add-comm (number (pos 0)) a ∙ ap (add a) (sym (add-negative q)) ∙ sym (add-assoc a b n) ∙ ap (λ x. add x n) e
     ∙ add-zero (eight-scale (negsuc 0) q)
 

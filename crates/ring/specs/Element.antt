@@ -9,7 +9,9 @@ use lib.IntN.{ℤ, pos, negsuc, _+ℤ_, _-ℤ_, _*ℤ_, natAbs}
 use lib.ListN.{getD}
 use Rattle.integers.specs.Table.{table}
 
--- component k, u_k
+-- ---- sums and multiples
+
+-- component k, 01's u_k
 abbrev pub component : List ℤ → ℕ → ℤ
 component a k = getD a k (pos 0)
 
@@ -24,11 +26,15 @@ abbrev pub scale : ℤ → List ℤ → List ℤ
 scale s [] = []
 scale s (x ∷ a) = (s *ℤ x) ∷ scale s a
 
--- the difference
-abbrev pub subtract : List ℤ → List ℤ → List ℤ
-subtract a b = add a (scale (negsuc 0) b)
+-- -a
+abbrev pub negate : List ℤ → List ℤ
+negate a = scale (negsuc 0) a
 
--- the element with s at component k and 0 at the other seven
+-- a - b
+abbrev pub subtract : List ℤ → List ℤ → List ℤ
+subtract a b = add a (negate b)
+
+-- the element with s at component k and 0 at the other seven; with k above 7, all eight are 0
 abbrev pub only : ℤ → ℕ → List ℤ
 only s k = table 8 (λ i. cond (eqb i k) s (pos 0))
 
@@ -36,50 +42,50 @@ only s k = table 8 (λ i. cond (eqb i k) s (pos 0))
 abbrev pub number : ℤ → List ℤ
 number s = only s 0
 
--- ---- c_m for every whole m
+-- ---- c_m for every whole m, by 01's rules
 
--- c_0 = 2; c_1 to c_7 are a component each; c_8 = 0
-abbrev pub quarter : ℕ → List ℤ
-quarter zero = number (pos 2)
-quarter (suc k) = only (pos 1) (suc k)
+-- m from 0 to 8: c_0 = 2, each of c_1 to c_7 is counted by a component of its own, c_8 = 0
+abbrev pub quarter-turn : ℕ → List ℤ
+quarter-turn zero = number (pos 2)
+quarter-turn (suc k) = only (pos 1) (suc k)
 
--- c_9 to c_16, by c_(16-m) = -c_m
-abbrev pub half : ℕ → List ℤ
-half m = cond (leb m 8) (quarter m) (scale (negsuc 0) (quarter (16 - m)))
+-- m from 0 to 16: past 8, c_m = -c_(16-m)
+abbrev pub half-turn : ℕ → List ℤ
+half-turn m = cond (leb m 8) (quarter-turn m) (negate (quarter-turn (16 - m)))
 
--- c_17 to c_31, by c_(32-m) = c_(-m) = c_m
-abbrev pub turn : ℕ → List ℤ
-turn m = cond (leb m 16) (half m) (half (32 - m))
+-- m from 0 to 31: past 16, c_m = c_(-m) = c_(32-m)
+abbrev pub full-turn : ℕ → List ℤ
+full-turn m = cond (leb m 16) (half-turn m) (half-turn (32 - m))
 
--- every other m, by c_(-m) = c_m and c_(32+m) = c_m
+-- c_m for every whole m: c_(-m) = c_m and c_(32+m) = c_m
 unfoldable pub cosine : ℤ → List ℤ
-cosine m = turn (natAbs m % 32)
+cosine m = full-turn (natAbs m % 32)
 
 -- ---- the product
 
--- what components i and j count, 1 and the c_k: 1 × c_j = c_j, and c_i × c_j = c_(i+j) + c_(i-j)
+-- the product of the numbers that components i and j count, which are 1 and the c_k: 1 × c_j = c_j, c_i × c_j = c_(i+j) + c_(i-j)
 abbrev pub by-rule : ℕ → ℕ → List ℤ
 by-rule zero zero = number (pos 1)
 by-rule zero (suc j) = cosine (pos (suc j))
 by-rule (suc i) zero = cosine (pos (suc i))
 by-rule (suc i) (suc j) = add (cosine (pos (suc i) +ℤ pos (suc j))) (cosine (pos (suc i) -ℤ pos (suc j)))
 
--- there is no component past 7
+-- the same for any i and j, with nothing for a component past 7, which an element does not have
 unfoldable pub basis-product : ℕ → ℕ → List ℤ
 basis-product i j = cond (ltb i 8 && ltb j 8) (by-rule i j) []
 
--- a_0·f(0) + a_1·f(1) + ...
+-- the combination of the elements f 0, f 1, ... by the components of a: a_0·f(0) + a_1·f(1) + ...
 abbrev pub combine : (ℕ → List ℤ) → List ℤ → List ℤ
 combine f [] = []
 combine f (x ∷ a) = add (scale x (f zero)) (combine (λ k. f (suc k)) a)
 
--- the product of two elements, term by term
+-- a × b, every component of a with every component of b
 unfoldable pub mul : List ℤ → List ℤ → List ℤ
 mul a b = combine (λ i. combine (basis-product i) b) a
 
--- ---- magnitudes
+-- ---- size
 
--- the sum of the magnitudes of an element's components (01: "the magnitudes of an element's eight components")
-abbrev pub magnitude : List ℤ → ℕ
-magnitude [] = 0
-magnitude (x ∷ a) = natAbs x + magnitude a
+-- the sum of the magnitudes of an element's components, which 01 limits
+abbrev pub magnitudes : List ℤ → ℕ
+magnitudes [] = 0
+magnitudes (x ∷ a) = natAbs x + magnitudes a

@@ -44,7 +44,7 @@ unfolding entry
 returns-4 c =
     let start = c .before .before .before .before .before .before in
     let i = start .args .i in
-    let r = c .before .times .result .parts in
+    let r = c .before .times .result .components in
     let read : toZ w32 (ofZ w32 (component r i)) ≡ component r i = toZ-ofZ (search needs) in
     rw (lt-ltb _ 8 (c .before .before .before .before .before .if1 .left), lt-ltb _ 8 (c .before .before .before .before .if2 .left), lt-ltb _ 8 (c .before .before .before .if3 .left))
     (read ∙ ap (λ a. component a i) (c .before .times .ensures ∙ ap (mul (cosine (pos (start .args .k)))) (c .before .before .only .ensures)))

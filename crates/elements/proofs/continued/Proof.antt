@@ -7,6 +7,7 @@ use lib.Dec.{lit<}
 use lib.IntN.{pos, _-ℤ_, negℤ, +ℤ-idl}
 use lib.ListN.{length, List·getD-eq-default}
 use mir.Syntax.{w32}
+use mir.Val.{ofZ, toZ}
 use mir.Facts.{toZ-ofZ}
 use borrow.Author.Needs.{needs}
 use Rattle.integers.proofs.Magnitudes.{natAbs-sub}
@@ -27,7 +28,11 @@ array-copy-out-result : tie.Need-array-copy-out-result
 array-copy-out-result c = search needs
 
 returns : tie.Need-returns
-returns c = toZ-ofZ (search needs) ∙ sym (continued-low _ _ (c .before .if1 .taken))
+returns c =
+    let start = c .before .before .before in
+    let u = component (start .args .a .components) (7 - start .args .j) in
+    let read : toZ w32 (ofZ w32 u) ≡ u = toZ-ofZ (search needs) in
+    read ∙ sym (continued-low (start .args .a .components) (start .args .j) (c .before .if1 .taken))
 
 mul-result-2 : tie.Need-mul-result-2
 mul-result-2 c = search needs
@@ -36,14 +41,18 @@ array-copy-out-result-2 : tie.Need-array-copy-out-result-2
 array-copy-out-result-2 c = search needs
 
 returns-2 : tie.Need-returns-2
-returns-2 c = toZ-ofZ (search needs) ∙ sym (continued-middle _ _ (omega arith) (omega arith))
+returns-2 c =
+    let start = c .before .before .before .before in
+    let u = component (start .args .a .components) (start .args .j - 7) in
+    let read : toZ w32 (ofZ w32 u) ≡ u = toZ-ofZ (search needs) in
+    read ∙ sym (continued-middle (start .args .a .components) (start .args .j) (omega arith) (omega arith))
 
 returns-3 : tie.Need-returns-3
 returns-3 c =
     let start = c .before .before .before .before in
     let e : start .args .j ≡ 15 = c .if3 .taken in
-    let l : length (start .args .a .parts) ≡ 8 = search needs in
-    sym (continued-middle (start .args .a .parts) (start .args .j) (omega arith) (omega arith) ∙ List·getD-eq-default (start .args .a .parts) (pos 0) {n = start .args .j - 7} (omega arith))
+    let l : length (start .args .a .components) ≡ 8 = search needs in
+    sym (continued-middle (start .args .a .components) (start .args .j) (omega arith) (omega arith) ∙ List·getD-eq-default (start .args .a .components) (pos 0) {n = start .args .j - 7} (omega arith))
 
 sub-minus : tie.Need-sub-minus
 sub-minus c = search needs
@@ -57,14 +66,14 @@ array-copy-out-minus c = search needs
 minus-requires : tie.Need-minus-requires
 minus-requires c κs =
     let start = c .before .before .before .before .before in
-    op-fits _-ℤ_ natAbs-sub w32 {B = headroom} (lit< tt) (pos 0) (component (start .args .a .parts) (23 - start .args .j)) zero-le (start .pre .0 .within (23 - start .args .j))
+    op-fits _-ℤ_ natAbs-sub w32 {B = headroom} (lit< tt) (pos 0) (component (start .args .a .components) (23 - start .args .j)) zero-le (start .pre .0 .within (23 - start .args .j))
 
 returns-4 : tie.Need-returns-4
 returns-4 c =
     let start = c .before .before .before .before .before .before in
-    let u = component (start .args .a .parts) (23 - start .args .j) in
+    let u = component (start .args .a .components) (23 - start .args .j) in
     op-kept _-ℤ_ natAbs-sub w32 {B = headroom} (lit< tt) (pos 0) u zero-le (start .pre .0 .within (23 - start .args .j)) (c .minus .ensures)
-    ∙ +ℤ-idl (negℤ u) ∙ sym (continued-high (start .args .a .parts) (start .args .j) (omega arith))
+    ∙ +ℤ-idl (negℤ u) ∙ sym (continued-high (start .args .a .components) (start .args .j) (omega arith))
 
 pub continued-spec : {M : Type 1} → statement M
 continued-spec =

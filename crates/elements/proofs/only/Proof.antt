@@ -3,18 +3,18 @@
 use mir.Syntax.{w32}
 use mir.ValLaws.{toZ-ofZ}
 use borrow.Author.Needs.{needs}
-use Rattle.elements.proofs.Parts.{set-only}
+use Rattle.elements.proofs.Componentwise.{set-only}
 use Rattle.elements.proofs.only.Statement.{statement}
 use Rattle.elements.proofs.only.Tie as tie
 
-mul-parts : tie.Need-mul-parts
-mul-parts c = search needs
+mul-components : tie.Need-mul-components
+mul-components c = search needs
 
-array-set-from-parts : tie.Need-array-set-from-parts
-array-set-from-parts c = search needs
+array-set-from-components : tie.Need-array-set-from-components
+array-set-from-components c = search needs
 
 returns : tie.Need-returns
 returns c = rw (toZ-ofZ w32 (c .args .s) (c .fits .s)) (set-only (c .args .s) (c .args .k) (c .pre))
 
 pub only-spec : {M : Type 1} → statement M
-only-spec = tie.close (tie.spec mul-parts array-set-from-parts returns)
+only-spec = tie.close (tie.spec mul-components array-set-from-components returns)

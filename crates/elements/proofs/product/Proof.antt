@@ -8,7 +8,7 @@ use Rattle.integers.proofs.Magnitudes.{natAbs-add}
 use Rattle.integers.proofs.Tables.{Filled, filled-none, filled-more, filled-all}
 use Rattle.ring.specs.Element.{component}
 use Rattle.elements.specs.Spread.{folded}
-use Rattle.elements.proofs.Bounds.{parts-fit, parts-kept}
+use Rattle.elements.proofs.Bounds.{components-fit, components-kept}
 use Rattle.elements.proofs.product.Statement.{statement}
 use Rattle.elements.proofs.product.Tie as tie
 
@@ -47,10 +47,8 @@ array-copy-out-plus-2 c = omega arith
 
 plus-requires : tie.Need-plus-requires Inv-loop μ-loop
 plus-requires c κs =
-    let start = c .before .before .before .before .before in
-    let i = c .before .before .before .loop .i in
-    let k = start .args .k in
-    parts-fit _+ℤ_ natAbs-add (start .pre .0) (start .pre .0) (7 + i - k) (7 + i + k)
+    let pre = c .before .before .before .before .before .pre in
+    components-fit _+ℤ_ natAbs-add (pre .0) (pre .0) _ _
 
 mul-r : tie.Need-mul-r Inv-loop μ-loop
 mul-r c = omega arith
@@ -70,7 +68,7 @@ loop-again c =
     let i = c .before .before .before .before .loop .i in
     let k = start .args .k in
     filled-more (omega arith) (c .before .before .before .before .loop .inv)
-    (parts-kept _+ℤ_ natAbs-add (start .pre .0) (start .pre .0) (7 + i - k) (7 + i + k) (c .plus .ensures))
+    (components-kept _+ℤ_ natAbs-add (start .pre .0) (start .pre .0) (7 + i - k) (7 + i + k) (c .plus .ensures))
 
 returns : tie.Need-returns Inv-loop μ-loop
 unfolding folded

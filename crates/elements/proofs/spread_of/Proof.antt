@@ -12,7 +12,7 @@ use Rattle.elements.proofs.spread_of.Statement.{statement}
 use Rattle.elements.proofs.spread_of.Tie as tie
 
 abbrev Inv-loop : tie.InvT-loop
-Inv-loop a s₀ j₀ s j = Filled (pos 0) 22 (continued (a .parts)) j s
+Inv-loop a s₀ j₀ s j = Filled (pos 0) 22 (continued (a .components)) j s
 
 abbrev μ-loop : tie.MeasureT-loop
 μ-loop a s₀ j₀ s j = 22 - j

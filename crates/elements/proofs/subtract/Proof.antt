@@ -9,8 +9,8 @@ use Rattle.integers.proofs.Magnitudes.{natAbs-sub}
 use Rattle.integers.proofs.Tables.{Filled, filled-none, filled-more, filled-all}
 use Rattle.ring.specs.Element.{component}
 use Rattle.ring.proofs.Components.{Eight}
-use Rattle.elements.proofs.Bounds.{parts-fit, parts-kept}
-use Rattle.elements.proofs.Parts.{subtract-table}
+use Rattle.elements.proofs.Bounds.{components-fit, components-kept}
+use Rattle.elements.proofs.Componentwise.{subtract-table}
 use Rattle.elements.proofs.subtract.Statement.{statement}
 use Rattle.elements.proofs.subtract.Tie as tie
 
@@ -39,7 +39,7 @@ minus-requires : tie.Need-minus-requires Inv-loop μ-loop
 minus-requires c κs =
     let start = c .before .before .before .before .before .before in
     let i = c .before .before .before .loop .i in
-    parts-fit _-ℤ_ natAbs-sub (start .pre .0) (start .pre .1) i i
+    components-fit _-ℤ_ natAbs-sub (start .pre .0) (start .pre .1) i i
 
 mul-r : tie.Need-mul-r Inv-loop μ-loop
 mul-r c = omega arith
@@ -57,13 +57,13 @@ loop-again : tie.Need-loop-again Inv-loop μ-loop
 loop-again c =
     let start = c .before .before .before .before .before .before .before in
     let i = c .before .before .before .before .loop .i in
-    filled-more (omega arith) (c .before .before .before .before .loop .inv) (parts-kept _-ℤ_ natAbs-sub (start .pre .0) (start .pre .1) i i (c .minus .ensures))
+    filled-more (omega arith) (c .before .before .before .before .loop .inv) (components-kept _-ℤ_ natAbs-sub (start .pre .0) (start .pre .1) i i (c .minus .ensures))
 
 returns : tie.Need-returns Inv-loop μ-loop
 returns c =
     let args = c .before .before .before .before .args in
-    let p : Eight (args .a .parts) = record { eight = search needs } in
-    let q : Eight (args .b .parts) = record { eight = search needs } in
+    let p : Eight (args .a .components) = record { eight = search needs } in
+    let q : Eight (args .b .components) = record { eight = search needs } in
     filled-all (omega arith) (c .before .loop .inv) ∙ sym (subtract-table p q)
 
 pub subtract-spec : {M : Type 1} → statement M

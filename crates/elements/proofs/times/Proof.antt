@@ -13,12 +13,12 @@ spread-of-requires : tie.Need-spread-of-requires
 spread-of-requires c κs = search needs
 
 product-requires : tie.Need-product-requires
-product-requires c κs = (rw (c .spread-of .ensures) (within-spread (c .before .pre .0)), c .before .pre .1)
+product-requires c κs = (rw (c .spread-of .ensures) (within-spread (c .before .pre .0)), search needs)
 
 returns : tie.Need-returns
 returns c =
     let start = c .before .before in
-    let e : Eight (start .args .a .parts) = record { eight = search needs } in
+    let e : Eight (start .args .a .components) = record { eight = search needs } in
     c .product .ensures ∙ ap (λ s. folded s (start .args .k)) (c .before .spread-of .ensures) ∙ folded-spread (start .args .k) (start .pre .1) e
 
 pub times-spec : {M : Type 1} → statement M

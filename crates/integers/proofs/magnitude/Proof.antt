@@ -2,20 +2,15 @@
 -- Assumes nothing.
 use mathlib.Core.Path.{_≡_, ap, subst, _∙_}
 use mathlib.Core.Bool.{true, false}
-use native.Mathlib.Nat.{lt-of-le-of-lt, not-suc-le-zero}
-use lib.Dec.{T, lit<}
+use native.Mathlib.Nat.{not-suc-le-zero}
+use lib.Dec.{T}
 use lib.IntN.{ℤ, pos, negsuc, negℤ, natAbs}
-use lib.Signed.{ltZ, nonNeg, natAbs-le}
-use mir.Syntax.{w32, w64}
-use mir.Val.{SFits, Fits}
+use lib.Signed.{ltZ, nonNeg}
 use borrow.Author.Tests.{ltb-true}
 use Rattle.integers.proofs.Magnitudes.{natAbs-neg}
-use Rattle.integers.proofs.Signed.{wide-fits, wide-kept, negative-fits, negative-kept}
+use Rattle.integers.proofs.Signed.{magnitude-fits, wide-fits, wide-kept, negative-fits, negative-kept}
 use Rattle.integers.proofs.magnitude.Statement.{statement}
 use Rattle.integers.proofs.magnitude.Tie as tie
-
-magnitude-fits : (x : ℤ) → SFits w32 x → Fits w64 (natAbs x)
-magnitude-fits x h = record { fits = lt-of-le-of-lt (natAbs-le x (h .sfits)) (lit< tt) }
 
 negative : (x : ℤ) → ltZ x (pos 0) ≡ true → T (nonNeg (negℤ x))
 negative (pos n) e = absurd (not-suc-le-zero (ltb-true n 0 e))
