@@ -65,9 +65,11 @@ within-times {B} {a} k h e w = subst (λ b. Within (B + B) b) (folded-spread k h
 
 -- ---- the code's own sums and differences of two components, read from the bits of an i32
 
-module _ (op : ℤ → ℤ → ℤ) (small : (x y : ℤ) → natAbs (op x y) ≤ natAbs x + natAbs y) {a b : List ℤ} (p : Within headroom a) (q : Within headroom b) (i j : ℕ) where
+module _ (op : ℤ → ℤ → ℤ) (small : (x y : ℤ) → natAbs (op x y) ≤ natAbs x + natAbs y)
+    {a b : List ℤ} (p : Within headroom a) (q : Within headroom b) (i j : ℕ) where
   pub components-fit : SFits w32 (op (toZ w32 (ofZ w32 (component a i))) (toZ w32 (ofZ w32 (component b j))))
   components-fit = op-fits op small w32 {B = headroom} (lit< tt) (component a i) (component b j) (p .within i) (q .within j)
 
-  pub components-kept : {r : ℤ} → r ≡ op (toZ w32 (ofZ w32 (component a i))) (toZ w32 (ofZ w32 (component b j))) → toZ w32 (ofZ w32 r) ≡ op (component a i) (component b j)
+  pub components-kept : {r : ℤ} → r ≡ op (toZ w32 (ofZ w32 (component a i))) (toZ w32 (ofZ w32 (component b j)))
+      → toZ w32 (ofZ w32 r) ≡ op (component a i) (component b j)
   components-kept e = op-kept op small w32 {B = headroom} (lit< tt) (component a i) (component b j) (p .within i) (q .within j) e

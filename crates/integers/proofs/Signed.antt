@@ -18,7 +18,8 @@ kept w z h = toZ-ofZ w z (small-fits w z h)
 
 -- ---- a sum or a difference, of operands that are at most half of the range
 
-module _ (op : ℤ → ℤ → ℤ) (small : (x y : ℤ) → natAbs (op x y) ≤ natAbs x + natAbs y) (w : Width) {B : ℕ} (half : B + B < 2 ^ hbits w) (x y : ℤ) (hx : natAbs x ≤ B) (hy : natAbs y ≤ B) where
+module _ (op : ℤ → ℤ → ℤ) (small : (x y : ℤ) → natAbs (op x y) ≤ natAbs x + natAbs y)
+    (w : Width) {B : ℕ} (half : B + B < 2 ^ hbits w) (x y : ℤ) (hx : natAbs x ≤ B) (hy : natAbs y ≤ B) where
   read : op (toZ w (ofZ w x)) (toZ w (ofZ w y)) ≡ op x y
   read = ap₂ op (kept w x (omega arith)) (kept w y (omega arith))
 

@@ -9,7 +9,8 @@ use lib.IntN.{pos, _+ℤ_, +ℤ-comm, +ℤ-assoc, +ℤ-idl}
 use Rattle.integers.specs.Sum.{sum}
 
 -- (a + b) + (c + d) = (a + c) + (b + d)
-module _ {A : Type 0} (plus : A → A → A) (comm : (a b : A) → plus a b ≡ plus b a) (assoc : (a b c : A) → plus (plus a b) c ≡ plus a (plus b c)) where
+module _ {A : Type 0} (plus : A → A → A) (comm : (a b : A) → plus a b ≡ plus b a)
+    (assoc : (a b c : A) → plus (plus a b) c ≡ plus a (plus b c)) where
   pub swap : (a b c d : A) → plus (plus a b) (plus c d) ≡ plus (plus a c) (plus b d)
   swap a b c d =
       assoc a b (plus c d) ∙ ap (plus a) (sym (assoc b c d) ∙ ap (λ x. plus x d) (comm b c) ∙ assoc c b d) ∙ sym (assoc a c (plus b d))
@@ -85,8 +86,10 @@ module _ {A : Type 0} (none : A) (plus : A → A → A) (M : CommutativeMonoid n
       go (no q) rest = rw (rest (omega arith), z n (omega arith) (λ e. omega arith)) (unit-right (f r))
 
 -- a map that keeps sums of two keeps a sum of at least one term, whatever it does to `none`
-module _ {A B : Type 0} (none : A) (plus : A → A → A) (M : CommutativeMonoid none plus) (none′ : B) (plus′ : B → B → B) (M′ : CommutativeMonoid none′ plus′) where
-  pub sum-map-some : (h : A → B) → ((a b : A) → h (plus a b) ≡ plus′ (h a) (h b)) → (n : ℕ) (f : ℕ → A) → 0 < n → h (sum none plus n f) ≡ sum none′ plus′ n (λ k. h (f k))
+module _ {A B : Type 0} (none : A) (plus : A → A → A) (M : CommutativeMonoid none plus)
+    (none′ : B) (plus′ : B → B → B) (M′ : CommutativeMonoid none′ plus′) where
+  pub sum-map-some : (h : A → B) → ((a b : A) → h (plus a b) ≡ plus′ (h a) (h b))
+      → (n : ℕ) (f : ℕ → A) → 0 < n → h (sum none plus n f) ≡ sum none′ plus′ n (λ k. h (f k))
   unfolding sum
   sum-map-some h p zero f l = absurd (not-suc-le-zero l)
   sum-map-some h p (suc zero) f l = ap h (M .unit (f zero)) ∙ sym (M′ .unit (h (f zero)))

@@ -88,7 +88,8 @@ linear-agree {plus = plus} {times = times} L M l m f (x ∷ a) h =
     let head = scale x (f zero) in
     let rest = combine (λ k. f (suc k)) a in
     l .sums head rest
-    ∙ ap₂ plus (l .multiples x (f zero) ∙ ap (times x) (h zero (omega arith)) ∙ sym (m .multiples x (f zero))) (linear-agree L M l m (λ k. f (suc k)) a (λ k b. h (suc k) (omega arith)))
+    ∙ ap₂ plus (l .multiples x (f zero) ∙ ap (times x) (h zero (omega arith)) ∙ sym (m .multiples x (f zero)))
+    (linear-agree L M l m (λ k. f (suc k)) a (λ k b. h (suc k) (omega arith)))
     ∙ sym (m .sums head rest)
 
 -- ---- combinations

@@ -52,7 +52,8 @@ returns-3 c =
     let start = c .before .before .before .before in
     let e : start .args .j ≡ 15 = c .if3 .taken in
     let l : length (start .args .a .components) ≡ 8 = search needs in
-    sym (continued-middle (start .args .a .components) (start .args .j) (omega arith) (omega arith) ∙ List·getD-eq-default (start .args .a .components) (pos 0) {n = start .args .j - 7} (omega arith))
+    sym (continued-middle (start .args .a .components) (start .args .j) (omega arith) (omega arith)
+    ∙ List·getD-eq-default (start .args .a .components) (pos 0) {n = start .args .j - 7} (omega arith))
 
 sub-minus : tie.Need-sub-minus
 sub-minus c = search needs
