@@ -58,7 +58,8 @@ within-spread {B} {a} w =
 pub within-folded : {B : ℕ} {s : List ℤ} (k : ℕ) → Within B s → Within (B + B) (folded s k)
 unfolding folded
 within-folded {B} {s} k w =
-    within-table (B + B) 8 (λ i. component s (7 + i - k) +ℤ component s (7 + i + k)) (λ i h. le-trans (natAbs-add (component s (7 + i - k)) (component s (7 + i + k))) (add-le-add (w .within (7 + i - k)) (w .within (7 + i + k))))
+    within-table (B + B) 8 (λ i. component s (7 + i - k) +ℤ component s (7 + i + k))
+    (λ i h. le-trans (natAbs-add (component s (7 + i - k)) (component s (7 + i + k))) (add-le-add (w .within (7 + i - k)) (w .within (7 + i + k))))
 
 pub within-times : {B : ℕ} {a : List ℤ} (k : ℕ) → k < 8 → Eight a → Within B a → Within (B + B) (mul (cosine (pos k)) a)
 within-times {B} {a} k h e w = subst (λ b. Within (B + B) b) (folded-spread k h e) (within-folded k (within-spread w))
