@@ -1,15 +1,15 @@
 -- The magnitudes of an element's components sum to at most S · 8 · 16^(d-1) in d dimensions, where no sample's magnitude is above S.
 -- Assumes nothing.
-use mathlib.Core.Path.{_≡_, refl, sym, ap}
+use mathlib.Core.Path.{_≡_, sym, ap}
 use mathlib.Core.Bool.{Bool}
 use mathlib.Core.List.{List}
 use Prim.Native.Nat.{ℕ, zero, suc, _+_, _*_, _/_, _%_, _^_, _≤_, _<_}
-use native.Mathlib.Nat.{le-trans, le-of-eq, mul-zero, mul-add, mul-le-mul-left, mul-le-mul-right, mod-lt, mod-eq-of-lt, pow-suc, zero-lt-suc}
+use native.Mathlib.Nat.{le-trans, le-of-eq, mul-le-mul-left, mul-le-mul-right, mod-lt, mod-eq-of-lt, pow-suc, zero-lt-suc}
 use native.Mathlib.Omega.{arith}
 use lib.Dec.{T, leb, leb→le}
 use lib.IntN.{ℤ, pos}
 use Rattle.integers.specs.Sum.{sum}
-use Rattle.integers.proofs.Sums.{naturals, sum-cong, sum-map, sum-le}
+use Rattle.integers.proofs.Sums.{naturals, sum-cong, sum-le, sum-times}
 use Rattle.integers.proofs.Tests.{every, every-at, every₂, every₂-at}
 use Rattle.ring.specs.Element.{scale, only, cosine, basis-product, mul, magnitudes}
 use Rattle.ring.proofs.Product.{mul-left}
@@ -64,7 +64,7 @@ unfolding weight
 weight-suc d p =
     le-trans (le-of-eq (sum-digits 0 _+_ naturals d (λ q. magnitudes (factors (suc d) p q))))
     (le-trans (sum-le (8 ^ d) _ (λ q. 16 * magnitudes (factors d (p / 8) q)) (λ q h. last-digit q))
-    (le-of-eq (sym (sum-map 0 _+_ 0 _+_ (λ t. 16 * t) refl (mul-add 16) (8 ^ d) (λ q. magnitudes (factors d (p / 8) q))))))
+    (le-of-eq (sym (sum-times (8 ^ d) 16 (λ q. magnitudes (factors d (p / 8) q))))))
   where
     last-digit : (q : ℕ) → sum 0 _+_ 8 (λ n. magnitudes (factors (suc d) p (q * 8 + n))) ≤ 16 * magnitudes (factors d (p / 8) q)
     last-digit q =
@@ -80,7 +80,7 @@ unfolding element weight
 bound d S x h p =
     le-trans (magnitudes-sum n (λ q. scale (x q) (factors (suc d) p q)))
     (le-trans (sum-le n _ (λ q. S * of q) (λ q k. rw (magnitudes-scale (x q) (factors (suc d) p q)) (mul-le-mul-right (of q) (h q k))))
-    (le-trans (le-of-eq (sym (sum-map 0 _+_ 0 _+_ (λ t. S * t) (mul-zero S) (mul-add S) n of))) (mul-le-mul-left S (weight-le d p))))
+    (le-trans (le-of-eq (sym (sum-times n S of))) (mul-le-mul-left S (weight-le d p))))
   where
     n : ℕ
     n = 8 ^ suc d

@@ -22,9 +22,13 @@ unfolding factors
 eight-factors zero p q = eight-only (pos 1) 0
 eight-factors (suc d) p q = eight-mul (eight-factors d (p / 8) (q / 8)) (eight-factor (p % 8) (q % 8))
 
+-- a block has at least one sample
+pub some-sample : (d : ℕ) → 0 < 8 ^ d
+some-sample d = one-le-pow d 8 (zero-lt-suc 7)
+
 pub eight-element : (d : ℕ) (x : ℕ → ℤ) (p : ℕ) → Eight (element d x p)
 unfolding element
-eight-element d x p = eight-sum (8 ^ d) (λ q. scale (x q) (factors d p q)) (one-le-pow d 8 (zero-lt-suc 7)) (λ q h. eight-scale (x q) (eight-factors d p q))
+eight-element d x p = eight-sum (8 ^ d) (λ q. scale (x q) (factors d p q)) (some-sample d) (λ q h. eight-scale (x q) (eight-factors d p q))
 
 pub eight-double-sum : (x : ℕ → ℕ → ℤ) (u v : ℕ) → Eight (double-sum x u v)
 unfolding double-sum

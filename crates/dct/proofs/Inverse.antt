@@ -15,6 +15,7 @@ use Rattle.ring.proofs.Product.{mul-left}
 use Rattle.ring.proofs.Ring.{scale-number}
 use Rattle.dct.specs.Inverse.{returned, gram, delta}
 use Rattle.dct.specs.Transform.{factors, element}
+use Rattle.dct.proofs.Factors.{some-sample}
 use Rattle.dct.proofs.Orthogonal.{delta-same, delta-other, orthogonal}
 
 -- each sample, times what the factors of its place and of place r give
@@ -39,7 +40,7 @@ pub inverse : (d : ℕ) (x : ℕ → ℤ) (r : ℕ) → r < 8 ^ d → returned d
 inverse d x r h =
     returned-samples d x r
     ∙ sum-cong [] add (8 ^ d) _ (λ q. number (term q)) (λ q k. ap (scale (x q)) (orthogonal d q r k h) ∙ scale-number (x q) (delta d q r))
-    ∙ sym (sum-map-some (pos 0) _+ℤ_ integers [] add elements number (λ a b. refl) (8 ^ d) term (one-le-pow d 8 (zero-lt-suc 7)))
+    ∙ sym (sum-map-some (pos 0) _+ℤ_ integers [] add elements number (λ a b. refl) (8 ^ d) term (some-sample d))
     ∙ ap number (sum-only (pos 0) _+ℤ_ integers (8 ^ d) term r h (λ q k n. ap (λ z. x q *ℤ z) (delta-other d q r n) ∙ *ℤ-zero (x q)) ∙ at-r)
   where
     term : ℕ → ℤ

@@ -1,4 +1,4 @@
--- The table of products that is tested against the cosines.
+-- The products of c_k with 1 and with c_1 to c_7 (01, "Elements"), number by number, which are tested against the cosines.
 use mathlib.Core.Bool.{cond, _&&_}
 use Prim.Native.Nat.{ℕ}
 use lib.Dec.{ltb}

@@ -1,4 +1,5 @@
--- How far an operation lets the components grow: a sum and a difference to the sum of the bounds, a product with c_k to twice the bound.
+-- Bounds on components: how far a product with c_k lets them grow, which is to twice the bound, and what they give the code's own sums.
+-- `Componentwise` has sums and differences, which add the bounds.
 -- Assumes nothing.
 use mathlib.Core.Path.{_≡_, subst}
 use mathlib.Core.Bool.{Bool, true, false, cond}
@@ -12,27 +13,18 @@ use lib.IntN.{ℤ, pos, _+ℤ_, negℤ, natAbs}
 use lib.ListN.{List·getD-eq-default}
 use mir.Syntax.{w32}
 use mir.Val.{SFits, ofZ, toZ}
-use Rattle.integers.proofs.Signed.{op-fits, op-kept}
 use Rattle.integers.specs.Table.{table}
-use Rattle.integers.proofs.Magnitudes.{natAbs-neg, natAbs-add, natAbs-sub}
+use Rattle.integers.proofs.Signed.{op-fits, op-kept}
+use Rattle.integers.proofs.Magnitudes.{natAbs-neg, natAbs-add}
 use Rattle.integers.proofs.Tables.{length-table, getD-table}
-use Rattle.ring.specs.Element.{component, add, subtract, only, cosine, mul}
-use Rattle.ring.proofs.Components.{Eight, component-add}
+use Rattle.ring.specs.Element.{component, only, cosine, mul}
+use Rattle.ring.proofs.Components.{Eight}
 use Rattle.elements.specs.Bound.{Within, headroom}
 use Rattle.elements.specs.Spread.{continued, spread, folded}
-use Rattle.elements.proofs.Componentwise.{component-subtract}
 use Rattle.elements.proofs.Products.{folded-spread}
 
 pub within-le : {A B : ℕ} {a : List ℤ} → A ≤ B → Within A a → Within B a
 within-le h w = record { within = λ k. le-trans (w .within k) h }
-
-pub within-add : {A B : ℕ} {a b : List ℤ} → Within A a → Within B b → Within (A + B) (add a b)
-within-add {A} {B} {a} {b} p q =
-    record { within = λ k. rw (component-add a b k) (le-trans (natAbs-add (component a k) (component b k)) (add-le-add (p .within k) (q .within k))) }
-
-pub within-subtract : {A B : ℕ} {a b : List ℤ} → Within A a → Within B b → Within (A + B) (subtract a b)
-within-subtract {A} {B} {a} {b} p q =
-    record { within = λ k. rw (component-subtract a b k) (le-trans (natAbs-sub (component a k) (component b k)) (add-le-add (p .within k) (q .within k))) }
 
 within-table : (B n : ℕ) (f : ℕ → ℤ) → ((k : ℕ) → k < n → natAbs (f k) ≤ B) → Within B (table n f)
 within-table B n f h = record { within = λ k. go k (decLt k n) }

@@ -1,32 +1,50 @@
--- Elements as the code makes them, component by component.
+-- Sums and differences of elements, and an element of one component, as the code makes them: component by component.
 -- Assumes nothing.
 use mathlib.Core.Path.{_≡_, ap, _∙_}
 use mathlib.Core.Bool.{cond}
 use mathlib.Core.List.{List}
-use Prim.Native.Nat.{ℕ, _<_}
+use Prim.Native.Nat.{ℕ, _+_, _≤_, _<_}
+use native.Mathlib.Nat.{le-trans, add-le-add}
 use native.Mathlib.Decide.{ℕ-discrete}
 use lib.Dec.{eqb}
-use lib.IntN.{ℤ, pos, negsuc, _+ℤ_, _-ℤ_}
+use lib.IntN.{ℤ, pos, negsuc, _+ℤ_, _-ℤ_, natAbs}
 use lib.ListN.{set, length-set, replicate, getD-replicate}
 use lib.Seq.{getD-set-same, getD-set-other}
 use borrow.Author.Tests.{eq-eqb, ne-eqb}
 use Rattle.integers.specs.Table.{table}
 use Rattle.integers.proofs.Integer.{minus-one-*ℤ}
+use Rattle.integers.proofs.Magnitudes.{natAbs-add, natAbs-sub}
 use Rattle.integers.proofs.Tables.{is-table}
 use Rattle.ring.specs.Element.{component, add, scale, subtract, only}
 use Rattle.ring.proofs.Components.{Eight, eight-add, eight-scale, component-add, component-scale}
+use Rattle.elements.specs.Bound.{Within}
 
-pub component-subtract : (a b : List ℤ) (k : ℕ) → component (subtract a b) k ≡ component a k -ℤ component b k
+component-subtract : (a b : List ℤ) (k : ℕ) → component (subtract a b) k ≡ component a k -ℤ component b k
 component-subtract a b k =
     component-add a (scale (negsuc 0) b) k ∙ ap (λ z. component a k +ℤ z) (component-scale (negsuc 0) b k ∙ minus-one-*ℤ (component b k))
 
+-- an operation that goes by components, and how far it lets them grow
+module _ (of : List ℤ → List ℤ → List ℤ) (op : ℤ → ℤ → ℤ) (by : (a b : List ℤ) (k : ℕ) → component (of a b) k ≡ op (component a k) (component b k)) where
+  as-table : (a b : List ℤ) → Eight (of a b) → of a b ≡ table 8 (λ k. op (component a k) (component b k))
+  as-table a b e = is-table (pos 0) (of a b) 8 _ (e .eight) (λ k h. by a b k)
+
+  grows : ((x y : ℤ) → natAbs (op x y) ≤ natAbs x + natAbs y) → {A B : ℕ} {a b : List ℤ} → Within A a → Within B b → Within (A + B) (of a b)
+  grows small {a = a} {b = b} p q =
+      record { within = λ k. rw (by a b k) (le-trans (small (component a k) (component b k)) (add-le-add (p .within k) (q .within k))) }
+
 pub add-table : {a b : List ℤ} → Eight a → Eight b → add a b ≡ table 8 (λ k. component a k +ℤ component b k)
-add-table {a} {b} p q = is-table (pos 0) (add a b) 8 (λ k. component a k +ℤ component b k) (eight-add p q .eight) (λ k h. component-add a b k)
+add-table {a} {b} p q = as-table add _+ℤ_ component-add a b (eight-add p q)
 
 pub subtract-table : {a b : List ℤ} → Eight a → Eight b → subtract a b ≡ table 8 (λ k. component a k -ℤ component b k)
-subtract-table {a} {b} p q =
-    is-table (pos 0) (subtract a b) 8 (λ k. component a k -ℤ component b k) (eight-add p (eight-scale (negsuc 0) q) .eight) (λ k h. component-subtract a b k)
+subtract-table {a} {b} p q = as-table subtract _-ℤ_ component-subtract a b (eight-add p (eight-scale (negsuc 0) q))
 
+pub within-add : {A B : ℕ} {a b : List ℤ} → Within A a → Within B b → Within (A + B) (add a b)
+within-add = grows add _+ℤ_ component-add natAbs-add
+
+pub within-subtract : {A B : ℕ} {a b : List ℤ} → Within A a → Within B b → Within (A + B) (subtract a b)
+within-subtract = grows subtract _-ℤ_ component-subtract natAbs-sub
+
+-- one store into eight zeros
 pub set-only : (s : ℤ) (k : ℕ) → k < 8 → set (replicate 8 (pos 0)) k s ≡ only s k
 set-only s k h = is-table (pos 0) (set (replicate 8 (pos 0)) k s) 8 _ (length-set (replicate 8 (pos 0)) k s) (λ i l. go i l (ℕ-discrete i k))
   where

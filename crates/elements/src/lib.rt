@@ -2,8 +2,8 @@
 // returns by value.
 //
 // A component is an i32. Each operation asks that no component of what it takes is above `headroom` in magnitude, so that no sum
-// of two can wrap. A sum or a difference at most adds the bounds of its operands, and a product with c_k doubles its operand's
-// (proofs/Bounds.antt): a caller that knows a bound at the start knows one at each step.
+// of two can wrap. A sum or a difference at most adds the bounds of its operands (`within-add`, `within-subtract`), and a product
+// with c_k doubles its operand's (`within-times`): a caller that knows a bound at the start knows one at each step.
 ghost use mathlib.Core.Path.{_≡_};
 ghost use Prim.Native.Nat.{_<_};
 ghost use lib.IntN.{pos};

@@ -2,7 +2,7 @@
 -- Assumes nothing.
 use mathlib.Core.Path.{_≡_, refl, sym, ap, _∙_}
 use Prim.Native.Nat.{ℕ, zero, suc, _+_, _*_, _≤_, _<_}
-use native.Mathlib.Nat.{add-zero, add-suc, add-assoc, add-comm, zero-add, zero-mul, suc-mul, add-le-add, le-refl, not-suc-le-zero}
+use native.Mathlib.Nat.{add-zero, add-suc, add-assoc, add-comm, zero-add, zero-mul, mul-zero, suc-mul, mul-add, add-le-add, le-refl, not-suc-le-zero}
 use native.Mathlib.Decide.{ℕ-discrete}
 use native.Mathlib.Omega.{arith}
 use lib.IntN.{pos, _+ℤ_, +ℤ-comm, +ℤ-assoc, +ℤ-idl}
@@ -96,7 +96,10 @@ module _ {A B : Type 0} (none : A) (plus : A → A → A) (M : CommutativeMonoid
   sum-map-some h p (suc (suc n)) f l =
       p (sum none plus (suc n) f) (f (suc n)) ∙ ap (λ x. plus′ x (h (f (suc n)))) (sum-map-some h p (suc n) f (omega arith))
 
--- ---- the order
+-- ---- sums of naturals
+
+pub sum-times : (n s : ℕ) (f : ℕ → ℕ) → s * sum 0 _+_ n f ≡ sum 0 _+_ n (λ k. s * f k)
+sum-times n s f = sum-map 0 _+_ 0 _+_ (λ t. s * t) (mul-zero s) (mul-add s) n f
 
 pub sum-le : (n : ℕ) (f g : ℕ → ℕ) → ((k : ℕ) → k < n → f k ≤ g k) → sum 0 _+_ n f ≤ sum 0 _+_ n g
 unfolding sum

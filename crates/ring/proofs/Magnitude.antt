@@ -9,8 +9,8 @@ use lib.IntN.{ℤ, pos, natAbs}
 use lib.ListN.{length}
 use Rattle.integers.specs.Sum.{sum}
 use Rattle.integers.proofs.Magnitudes.{natAbs-add, natAbs-mul}
-use Rattle.integers.proofs.Sums.{naturals, sum-cong, sum-le, sum-map, sum-none, sum-plus}
-use Rattle.ring.specs.Element.{component, add, scale, only, combine, magnitudes}
+use Rattle.integers.proofs.Sums.{naturals, sum-cong, sum-le, sum-none, sum-plus, sum-times}
+use Rattle.ring.specs.Element.{add, scale, only, combine, magnitudes}
 use Rattle.ring.proofs.Linear.{LinearMap, linear-combine}
 use Rattle.ring.proofs.Components.{Eight, expand}
 
@@ -28,17 +28,12 @@ unfolding sum
 magnitudes-sum zero f = le-refl 0
 magnitudes-sum (suc n) f = omega (arith, magnitudes-add (sum [] add n f) (f n), magnitudes-sum n f)
 
-pub component-magnitudes : (a : List ℤ) (k : ℕ) → natAbs (component a k) ≤ magnitudes a
-component-magnitudes [] k = le-refl 0
-component-magnitudes (x ∷ a) zero = omega arith
-component-magnitudes (x ∷ a) (suc k) = omega (arith, component-magnitudes a k)
-
--- ---- several linear maps: a bound C on their values at 1 and at c_1 to c_7 is C times its magnitudes at every element
+-- ---- n linear maps: where their values at 1 and at each of c_1 to c_7 have magnitudes of C at most, those at a have C times a's own
 
 -- the sum of f 0 to f (n - 1) is linear in f
 sum-linear : (n s : ℕ) (f g : ℕ → ℕ) → sum 0 _+_ n (λ i. s * f i + g i) ≡ s * sum 0 _+_ n f + sum 0 _+_ n g
 sum-linear n s f g =
-    sum-plus 0 _+_ naturals n (λ i. s * f i) g ∙ ap (λ (t : ℕ). t + sum 0 _+_ n g) (sym (sum-map 0 _+_ 0 _+_ (λ t. s * t) (mul-zero s) (mul-add s) n f))
+    sum-plus 0 _+_ naturals n (λ i. s * f i) g ∙ ap (λ (t : ℕ). t + sum 0 _+_ n g) (sym (sum-times n s f))
 
 module _ (n C : ℕ) where
   combinations : (f : ℕ → ℕ → List ℤ) (a : List ℤ) → ((k : ℕ) → k < length a → sum 0 _+_ n (λ i. magnitudes (f i k)) ≤ C)
