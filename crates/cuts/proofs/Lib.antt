@@ -1,0 +1,1 @@
+-- What the definitions of fractions, cosines as roots and rounding mean.

@@ -1,0 +1,4 @@
+pub mod Fraction
+pub mod Root
+pub mod Value
+pub mod Width
