@@ -1,1 +1,7 @@
 -- What the definitions of fractions, cosines as roots and rounding mean.
+pub mod Order
+pub mod Below
+pub mod Tables
+pub mod Floor
+pub mod Within
+pub mod Error

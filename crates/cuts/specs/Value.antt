@@ -1,9 +1,9 @@
 -- An element's value against fractions (01, "Where a fraction lies against a cosine", second paragraph).
+use mathlib.Core.List.{List}
 use Prim.Native.Nat.{ℕ, suc, _≤_}
 use lib.Dec.{T}
 use lib.IntN.{ℤ, pos}
 use lib.Signed.{ltZ}
-use mathlib.Core.List.{List}
 use Rattle.integers.specs.Sum.{sum}
 use Rattle.ring.specs.Element.{component}
 use Rattle.cuts.specs.Fraction.{Fraction, whole, plus, minus, times, at-most}

@@ -1,2 +1,3 @@
 pub mod Bound
+pub mod Buffer
 pub mod Spread

@@ -6,12 +6,12 @@ use mathlib.Core.Path.{_≡_, sym, ap, _∙_}
 use mathlib.Core.Logic.{_↔_, _⊎_, inl, inr}
 use mathlib.Core.Bool.{Bool, true, false, not, cond}
 use Prim.Native.Nat.{ℕ, zero, suc, _+_, _*_, _-_, _≤_, _<_}
-use native.Mathlib.Nat.{eq-of-mul-eq-mul-left, mul-le-mul-left}
-use native.Mathlib.Decide.{decLe}
+use native.Mathlib.Nat.{eq-of-mul-eq-mul-left, mul-le-mul, mul-le-mul-left, mul-lt-mul-of-pos-left, lt-of-mul-lt-mul-left}
+use native.Mathlib.Decide.{decLe, decLt}
 use native.Mathlib.Omega.{arith}
-use lib.Dec.{T, ltb, ltb→lt, nltb→le, leb→le, le→leb}
-use lib.IntN.{ℤ, pos, negsuc, subℕ, _+ℤ_, _-ℤ_, _*ℤ_, negℤ, natAbs, one, *ℤ-one}
-use lib.Signed.{_≤ℤ_}
+use lib.Dec.{T, ltb, ltb→lt, lt→ltb, nltb→le, leb→le, le→leb, nleb→lt}
+use lib.IntN.{ℤ, pos, negsuc, subℕ, _+ℤ_, _-ℤ_, _*ℤ_, negℤ, natAbs, one, *ℤ-one, *ℤ-comm}
+use lib.Signed.{_≤ℤ_, _<ℤ_, leZ}
 
 -- ---- an integer as a difference
 
@@ -115,6 +115,18 @@ dif-le a b c d =
     let (l, r, s) = common c d in
     (λ h. let t = le-parts (dif a b) (dif c d) .0 h in omega arith, λ h. le-parts (dif a b) (dif c d) .1 (omega arith))
 
+lt-parts : (z w : ℤ) → (z <ℤ w) ↔ (up z + down w < up w + down z)
+lt-parts (pos a) (pos b) = (λ h. let k : a < b = ltb→lt a b (h .lt) in omega arith, λ h. record { lt = lt→ltb a b (omega arith) })
+lt-parts (pos a) (negsuc b) = (λ h. absurd (h .lt), λ h. absurd (omega arith))
+lt-parts (negsuc a) (pos b) = (λ h. omega arith, λ h. record { lt = tt })
+lt-parts (negsuc a) (negsuc b) = (λ h. let k : b < a = ltb→lt b a (h .lt) in omega arith, λ h. record { lt = lt→ltb b a (omega arith) })
+
+pub dif-lt : (a b c d : ℕ) → (dif a b <ℤ dif c d) ↔ (a + d < c + b)
+dif-lt a b c d =
+    let (k, p, q) = common a b in
+    let (l, r, s) = common c d in
+    (λ h. let t = lt-parts (dif a b) (dif c d) .0 h in omega arith, λ h. lt-parts (dif a b) (dif c d) .1 (omega arith))
+
 pub dif-natAbs : (a b : ℕ) → natAbs (dif a b) ≤ a + b
 dif-natAbs a b = by-order a b (λ z. natAbs z ≤ a + b) (λ n p. omega arith) (λ n p. omega arith)
 
@@ -129,7 +141,7 @@ same-dif a b c d e =
 
 -- ---- the ring: each variable as a difference, the rules, and `omega`. What is not here `lib.IntN` has
 
-ruleset difs = (dif-add, dif-mul, dif-neg)
+pub ruleset difs = (dif-add, dif-mul, dif-neg)
 
 pub *ℤ-assoc : (a b c : ℤ) → (a *ℤ b) *ℤ c ≡ a *ℤ (b *ℤ c)
 *ℤ-assoc a b c = rw (as-dif a, as-dif b, as-dif c) (simp difs (dif-same _ _ _ _ (omega arith)))
@@ -201,3 +213,56 @@ pub *ℤ-≤ℤ : (n : ℕ) {a b : ℤ} → a ≤ℤ b → (pos n *ℤ a) ≤ℤ
 *ℤ-≤ℤ n {a} {b} h =
     let p = le-parts a b .0 h in
     rw (as-dif a, as-dif b, as-dif (pos n)) (simp difs (dif-le _ _ _ _ .1 (omega (arith, mul-le-mul-left n p))))
+
+pub ≤ℤ-*ℤ : (n : ℕ) {a b : ℤ} → a ≤ℤ b → (a *ℤ pos n) ≤ℤ (b *ℤ pos n)
+≤ℤ-*ℤ n {a} {b} h = rw (*ℤ-comm a (pos n), *ℤ-comm b (pos n)) (*ℤ-≤ℤ n h)
+
+pub pos-≤ℤ : {a b : ℕ} → a ≤ b → pos a ≤ℤ pos b
+pos-≤ℤ {a} {b} h = record { le = le→leb a b h }
+
+-- ---- the strict order
+
+pub <ℤ→≤ℤ : {a b : ℤ} → a <ℤ b → a ≤ℤ b
+<ℤ→≤ℤ {a} {b} h =
+    let p = lt-parts a b .0 h in
+    le-parts a b .1 (omega arith)
+
+-- a test that failed (`lib.Signed` has `ltZ-no`)
+pub leZ-no : {a b : ℤ} → T (not (leZ a b)) → b <ℤ a
+leZ-no {a = pos a} {b = pos b} t = record { lt = lt→ltb b a (nleb→lt a b t) }
+leZ-no {a = pos a} {b = negsuc b} t = record { lt = tt }
+leZ-no {a = negsuc a} {b = pos b} t = absurd t
+leZ-no {a = negsuc a} {b = negsuc b} t = record { lt = lt→ltb a b (nleb→lt b a t) }
+
+-- a positive factor keeps the strict order, and cancels
+pub *ℤ-<ℤ : {n : ℕ} → 0 < n → {a b : ℤ} → a <ℤ b → (pos n *ℤ a) <ℤ (pos n *ℤ b)
+*ℤ-<ℤ {n} h {a} {b} k =
+    let p = lt-parts a b .0 k in
+    rw (as-dif a, as-dif b, as-dif (pos n)) (simp difs (dif-lt _ _ _ _ .1 (omega (arith, mul-lt-mul-of-pos-left p h))))
+
+pub *ℤ-<ℤ-cancel : (n : ℕ) {a b : ℤ} → (pos n *ℤ a) <ℤ (pos n *ℤ b) → a <ℤ b
+*ℤ-<ℤ-cancel n {a} {b} k =
+    let p = dif-lt _ _ _ _ .0 (rw (mul-parts (pos n) a, mul-parts (pos n) b) at k) in
+    let q : n * (up a + down b) < n * (up b + down a) = omega arith in
+    lt-parts a b .1 (lt-of-mul-lt-mul-left n q)
+
+pub +ℤ-<ℤ-cancel : (c : ℤ) {a b : ℤ} → (a +ℤ c) <ℤ (b +ℤ c) → a <ℤ b
++ℤ-<ℤ-cancel c {a} {b} k =
+    let p = dif-lt _ _ _ _ .0 (rw (add-parts a c, add-parts b c) at k) in
+    lt-parts a b .1 (omega arith)
+
+pub negℤ-<ℤ-cancel : {a b : ℤ} → negℤ b <ℤ negℤ a → a <ℤ b
+negℤ-<ℤ-cancel {a} {b} k =
+    let p = dif-lt _ _ _ _ .0 (rw (neg-parts a, neg-parts b) at k) in
+    lt-parts a b .1 (omega arith)
+
+-- the smaller square belongs to the smaller number, where the other is not negative
+pub square-<ℤ : {a b : ℤ} → pos 0 ≤ℤ b → (a *ℤ a) <ℤ (b *ℤ b) → a <ℤ b
+square-<ℤ {a = pos a} {b = pos b} h k = record { lt = go (decLt a b) }
+  where
+    go : Dec (a < b) → T (ltb a b)
+    go (yes l) = lt→ltb a b l
+    go (no n) = let l : b ≤ a = omega arith in absurd (omega (arith, mul-le-mul l l, ltb→lt (a * a) (b * b) (k .lt)))
+square-<ℤ {a = negsuc a} {b = pos b} h k = record { lt = tt }
+square-<ℤ {a = pos a} {b = negsuc b} h k = absurd (h .le)
+square-<ℤ {a = negsuc a} {b = negsuc b} h k = absurd (h .le)

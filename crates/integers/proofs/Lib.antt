@@ -3,5 +3,6 @@ pub mod Integer
 pub mod Magnitudes
 pub mod Signed
 pub mod Sums
+pub mod Search
 pub mod Tables
 pub mod Tests

@@ -1,0 +1,20 @@
+-- Division that rounds down.
+-- Assumes nothing.
+use Prim.Native.Nat.{ℕ, _+_, _*_, _/_, _≤_, _<_}
+use native.Mathlib.Nat.{mul-div-le, lt-mul-div-succ}
+use native.Mathlib.Omega.{arith}
+use lib.IntN.{ℤ, pos, negsuc, _+ℤ_, _*ℤ_}
+use lib.Signed.{_≤ℤ_, _<ℤ_, shrZ}
+use Rattle.integers.proofs.Integer.{up, down, as-dif, dif-le, dif-lt, difs}
+
+-- w is z/m rounded down: by their parts, so that `omega` reads it
+by-parts : (z w : ℤ) (m : ℕ) → m * up w + down z ≤ up z + m * down w → up z + m * down w < m * (up w + 1) + down z
+    → ((pos m *ℤ w) ≤ℤ z) × (z <ℤ (pos m *ℤ (w +ℤ pos 1)))
+by-parts z w m low high = (
+  rw (as-dif z, as-dif w, as-dif (pos m)) (simp difs (dif-le _ _ _ _ .1 (omega arith))),
+  rw (as-dif z, as-dif w, as-dif (pos m), as-dif (pos 1)) (simp difs (dif-lt _ _ _ _ .1 (omega arith))),
+)
+
+pub rounded-down : (z : ℤ) (m : ℕ) → 0 < m → ((pos m *ℤ shrZ z m) ≤ℤ z) × (z <ℤ (pos m *ℤ (shrZ z m +ℤ pos 1)))
+rounded-down (pos a) m h = by-parts (pos a) (pos (a / m)) m (omega (arith, mul-div-le a m)) (omega (arith, lt-mul-div-succ a h))
+rounded-down (negsuc a) m h = by-parts (negsuc a) (negsuc (a / m)) m (omega (arith, lt-mul-div-succ a h)) (omega (arith, mul-div-le a m))

@@ -1,0 +1,15 @@
+-- Elements in a buffer of numbers, and in an array of records (01, "Elements").
+use mathlib.Core.List.{List, []}
+use Prim.Native.Nat.{ℕ, _+_, _*_}
+use lib.IntN.{ℤ, pos}
+use lib.ListN.{getD}
+use Rattle.integers.specs.Table.{table}
+use Rattle.elements.specs.declared.Element.{Element}
+
+-- element p of a buffer: it "starts at index 8·(8u+v), component 0 first", where p = 8u+v is its number
+unfoldable pub element-at : List ℤ → ℕ → List ℤ
+element-at l p = table 8 (λ k. getD l (8 * p + k) (pos 0))
+
+-- the components of element n of an array
+abbrev pub entry : List Element → ℕ → List ℤ
+entry l n = getD l n (record { components = [] }) .components
