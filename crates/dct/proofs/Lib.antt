@@ -5,3 +5,5 @@ pub mod Inverse
 pub mod Bound
 pub mod Dimensions
 pub mod Classes
+pub mod Factorised
+pub mod Halves

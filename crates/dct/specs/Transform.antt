@@ -36,6 +36,10 @@ double-sum x u v = sum [] add 8 (λ i. sum [] add 8 (λ j. scale (x i j) (mul (f
 unfoldable pub step : (ℕ → List ℤ) → ℕ → List ℤ
 step r k = sum [] add 8 (λ n. mul (r n) (factor k n))
 
+-- its first four terms, which a factorised step makes of sums and differences of a row's elements
+unfoldable pub half-step : (ℕ → List ℤ) → ℕ → List ℤ
+half-step r k = sum [] add 4 (λ n. mul (r n) (factor k n))
+
 -- no sample of the block x of d dimensions has a magnitude above S
 abbrev pub Bounded : ℕ → ℕ → (ℕ → ℤ) → Type 0
 Bounded d S x = (q : ℕ) → q < 8 ^ d → natAbs (x q) ≤ S

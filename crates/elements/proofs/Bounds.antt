@@ -1,7 +1,7 @@
 -- Bounds on components: how far a product with c_k lets them grow, which is to twice the bound, and what they give the code's own sums.
 -- `Componentwise` has sums and differences, which add the bounds.
 -- Assumes nothing.
-use mathlib.Core.Path.{_≡_, subst}
+use mathlib.Core.Path.{_≡_}
 use mathlib.Core.Bool.{Bool, true, false, cond}
 use mathlib.Core.List.{List}
 use Prim.Native.Nat.{ℕ, _+_, _-_, _≤_, _<_, zero-le}
@@ -20,8 +20,8 @@ use Rattle.integers.proofs.Tables.{length-table, getD-table}
 use Rattle.ring.specs.Element.{component, only, cosine, mul}
 use Rattle.ring.proofs.Components.{Eight}
 use Rattle.elements.specs.Bound.{Within, headroom}
-use Rattle.elements.specs.Spread.{continued, spread, folded}
-use Rattle.elements.proofs.Products.{folded-spread}
+use Rattle.elements.specs.Continued.{continued}
+use Rattle.elements.proofs.Products.{product-table}
 
 pub within-le : {A B : ℕ} {a : List ℤ} → A ≤ B → Within A a → Within B a
 within-le h w = record { within = λ k. le-trans (w .within k) h }
@@ -41,20 +41,16 @@ pub within-only : (s : ℤ) (k : ℕ) → Within (natAbs s) (only s k)
 within-only s k =
     within-table (natAbs s) 8 (λ i. cond (eqb i k) s (pos 0)) (λ i h. within-cond (natAbs s) (eqb i k) s (pos 0) (le-refl (natAbs s)) zero-le)
 
-pub within-spread : {B : ℕ} {a : List ℤ} → Within B a → Within B (spread a)
-unfolding spread continued
-within-spread {B} {a} w =
-    within-table B 22 (continued a) (λ j h. within-cond B (ltb j 7) (component a (7 - j)) _ (w .within (7 - j))
-    (within-cond B (ltb j 16) (component a (j - 7)) (negℤ (component a (23 - j))) (w .within (j - 7)) (rw (natAbs-neg (component a (23 - j))) (w .within (23 - j)))))
-
-pub within-folded : {B : ℕ} {s : List ℤ} (k : ℕ) → Within B s → Within (B + B) (folded s k)
-unfolding folded
-within-folded {B} {s} k w =
-    within-table (B + B) 8 (λ i. component s (7 + i - k) +ℤ component s (7 + i + k))
-    (λ i h. le-trans (natAbs-add (component s (7 + i - k)) (component s (7 + i + k))) (add-le-add (w .within (7 + i - k)) (w .within (7 + i + k))))
+pub within-continued : {B : ℕ} {a : List ℤ} → Within B a → (j : ℕ) → natAbs (continued a j) ≤ B
+unfolding continued
+within-continued {B} {a} w j =
+    within-cond B (ltb j 7) (component a (7 - j)) _ (w .within (7 - j))
+    (within-cond B (ltb j 16) (component a (j - 7)) (negℤ (component a (23 - j))) (w .within (j - 7)) (rw (natAbs-neg (component a (23 - j))) (w .within (23 - j))))
 
 pub within-times : {B : ℕ} {a : List ℤ} (k : ℕ) → k < 8 → Eight a → Within B a → Within (B + B) (mul (cosine (pos k)) a)
-within-times {B} {a} k h e w = subst (λ b. Within (B + B) b) (folded-spread k h e) (within-folded k (within-spread w))
+within-times {B} {a} k h e w =
+    rw (product-table k h e) (within-table (B + B) 8 (λ i. continued a (7 + i - k) +ℤ continued a (7 + i + k))
+    (λ i l. le-trans (natAbs-add (continued a (7 + i - k)) (continued a (7 + i + k))) (add-le-add (within-continued w (7 + i - k)) (within-continued w (7 + i + k)))))
 
 -- ---- the code's own sums and differences of two components, read from the bits of an i32
 

@@ -1,6 +1,6 @@
--- Multiplying by c_k through the spread components.
+-- Multiplying by c_k through the continued components.
 -- Assumes nothing.
-use mathlib.Core.Path.{_≡_, sym, ap₂, _∙_}
+use mathlib.Core.Path.{_≡_}
 use mathlib.Core.Bool.{Bool}
 use mathlib.Core.List.{List}
 use Prim.Native.Nat.{ℕ, _+_, _-_, _≤_, _<_}
@@ -8,14 +8,15 @@ use native.Mathlib.Omega.{arith}
 use lib.Dec.{T, ltb}
 use lib.IntN.{ℤ, pos, _+ℤ_, negℤ}
 use borrow.Author.Tests.{lt-ltb, le-ltb}
-use Rattle.integers.proofs.Tables.{is-table, getD-table}
+use Rattle.integers.specs.Table.{table}
+use Rattle.integers.proofs.Tables.{is-table}
 use Rattle.integers.proofs.Tests.{every₃, every₃-at, eqZ, eqZ→≡}
 use Rattle.ring.specs.Element.{component, only, cosine, basis-product, mul}
 use Rattle.ring.proofs.Linear.{LinearForm, linear-self}
 use Rattle.ring.proofs.Product.{mul-right}
 use Rattle.ring.proofs.Components.{Eight, eight-cosine, eight-mul, form-component, linear-same}
 use Rattle.ring.proofs.Forms.{form-plus, form-neg, form-cond}
-use Rattle.elements.specs.Spread.{continued, spread, folded}
+use Rattle.elements.specs.Continued.{continued}
 
 -- ---- the continued components, by the three stretches of the index
 
@@ -57,13 +58,7 @@ component-product k i h l =
     linear-same (λ a. component (mul (cosine (pos k)) a) i) (entry k i) (form-component (mul (cosine (pos k))) (mul-right (cosine (pos k))) i)
     (form-plus (form-continued (7 + i - k)) (form-continued (7 + i + k))) (λ m b. eqZ→≡ _ _ (every₃-at 8 entry-at entry-test k i m h l b))
 
-component-spread : (a : List ℤ) (j : ℕ) → j < 22 → component (spread a) j ≡ continued a j
-unfolding spread
-component-spread a j h = getD-table 22 (continued a) (pos 0) j h
-
 -- the code's product is the ring's
-pub folded-spread : (k : ℕ) → k < 8 → {a : List ℤ} → Eight a → folded (spread a) k ≡ mul (cosine (pos k)) a
-unfolding folded entry
-folded-spread k h {a} e =
-    sym (is-table (pos 0) (mul (cosine (pos k)) a) 8 _ (eight-mul (eight-cosine (pos k)) e .eight)
-    (λ i l. component-product k i h l e ∙ sym (ap₂ _+ℤ_ (component-spread a (7 + i - k) (omega arith)) (component-spread a (7 + i + k) (omega arith)))))
+pub product-table : (k : ℕ) → k < 8 → {a : List ℤ} → Eight a → mul (cosine (pos k)) a ≡ table 8 (λ i. continued a (7 + i - k) +ℤ continued a (7 + i + k))
+unfolding entry
+product-table k h {a} e = is-table (pos 0) (mul (cosine (pos k)) a) 8 _ (eight-mul (eight-cosine (pos k)) e .eight) (λ i l. component-product k i h l e)

@@ -1,6 +1,7 @@
 -- Elements in a buffer of numbers, and in an array of records (01, "Elements").
+use mathlib.Core.Path.{_≡_}
 use mathlib.Core.List.{List, []}
-use Prim.Native.Nat.{ℕ, _+_, _*_}
+use Prim.Native.Nat.{ℕ, _+_, _*_, _<_}
 use lib.IntN.{ℤ, pos}
 use lib.ListN.{getD}
 use Rattle.integers.specs.Table.{table}
@@ -13,3 +14,7 @@ element-at l p = table 8 (λ k. getD l (8 * p + k) (pos 0))
 -- the components of element n of an array
 abbrev pub entry : List Element → ℕ → List ℤ
 entry l n = getD l n (record { components = [] }) .components
+
+-- the first n elements of an array are f 0, f 1, ..., f (n - 1)
+pub record Row (n : ℕ) (f : ℕ → List ℤ) (l : List Element) : Type 0 where
+  pub at : (i : ℕ) → i < n → entry l i ≡ f i

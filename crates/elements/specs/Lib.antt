@@ -1,3 +1,3 @@
 pub mod Bound
 pub mod Buffer
-pub mod Spread
+pub mod Continued

@@ -9,7 +9,7 @@ ghost use Prim.Native.Nat.{_<_};
 ghost use lib.IntN.{pos};
 ghost use Rattle.ring.specs.Element as ring;
 ghost use Rattle.elements.specs.Bound.{Within, headroom};
-ghost use Rattle.elements.specs.Spread as spec;
+ghost use Rattle.elements.specs.Continued as spec;
 use integers::minus;
 use integers::plus;
 
@@ -62,13 +62,7 @@ pub fn subtract(a: Element, b: Element) -> Element
     Element { components: r }
 }
 
-// The components u_(-7) to u_14, continued as the cosines are (specs/Spread.antt). They are laid out once for all the products of
-// one element.
-pub struct Spread {
-    pub at: [i32; 22],
-}
-
-// u_(j-7)
+// u_(j-7), for the components u_(-7) to u_14: they go on past u_0 and u_7 as the cosines do (specs/Continued.antt).
 fn continued(a: Element, j: usize) -> i32
     requires { ⌜ Within headroom (a .components) ⌝ }
     requires { ⌜ j < 22 ⌝ }
@@ -87,40 +81,17 @@ fn continued(a: Element, j: usize) -> i32
     minus(0, u[23 - j])
 }
 
-pub fn spread_of(a: Element) -> Spread
-    requires { ⌜ Within headroom (a .components) ⌝ }
-    ensures { λ r. ⌜ r .at ≡ spec.spread (a .components) ⌝ }
-{
-    let mut s = [0i32; 22];
-    let mut j = 0;
-    while j < 22 {
-        s[j] = continued(a, j);
-        j += 1;
-    }
-    Spread { at: s }
-}
-
-// c_k times the element that was spread: component i is u_(i-k) + u_(i+k).
-pub fn product(s: Spread, k: usize) -> Element
-    requires { ⌜ Within headroom (s .at) ⌝ }
-    requires { ⌜ k < 8 ⌝ }
-    ensures { λ r. ⌜ r .components ≡ spec.folded (s .at) k ⌝ }
-{
-    let u = s.at;
-    let mut r = [0i32; 8];
-    let mut i = 0;
-    while i < 8 {
-        r[i] = plus(u[7 + i - k], u[7 + i + k]);
-        i += 1;
-    }
-    Element { components: r }
-}
-
-// c_k × a, for k from 0 to 7
+// c_k × a, for k from 0 to 7: component i is u_(i-k) + u_(i+k).
 pub fn times(a: Element, k: usize) -> Element
     requires { ⌜ Within headroom (a .components) ⌝ }
     requires { ⌜ k < 8 ⌝ }
     ensures { λ r. ⌜ r .components ≡ ring.mul (ring.cosine (pos k)) (a .components) ⌝ }
 {
-    product(spread_of(a), k)
+    let mut r = [0i32; 8];
+    let mut i = 0;
+    while i < 8 {
+        r[i] = plus(continued(a, 7 + i - k), continued(a, 7 + i + k));
+        i += 1;
+    }
+    Element { components: r }
 }

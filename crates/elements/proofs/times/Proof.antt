@@ -1,25 +1,105 @@
--- `times` meets its contract: what `product` folds out of what `spread_of` lays out is the ring's product.
+-- `times` meets its contract: the loop fills the product's components one by one, and each sum of two fits.
 -- Assumes nothing.
-use mathlib.Core.Path.{ap, _∙_}
+use mathlib.Core.Path.{refl, sym, ap₂, _∙_}
+use Prim.Native.Nat.{_+_, _-_}
+use native.Mathlib.Omega.{arith}
+use lib.Dec.{lit<}
+use lib.IntN.{pos, _+ℤ_}
+use mir.Syntax.{w32}
+use mir.Val.{ofZ, toZ}
 use borrow.Author.Needs.{needs}
+use Rattle.integers.proofs.Magnitudes.{natAbs-add}
+use Rattle.integers.proofs.Signed.{op-fits, op-kept}
+use Rattle.integers.proofs.Tables.{Filled, filled-none, filled-more, filled-all}
 use Rattle.ring.proofs.Components.{Eight}
-use Rattle.elements.specs.Spread.{folded}
-use Rattle.elements.proofs.Bounds.{within-spread}
-use Rattle.elements.proofs.Products.{folded-spread}
+use Rattle.elements.specs.Bound.{headroom}
+use Rattle.elements.specs.Continued.{continued}
+use Rattle.elements.proofs.Products.{product-table}
+use Rattle.elements.proofs.Bounds.{within-continued}
 use Rattle.elements.proofs.times.Statement.{statement}
 use Rattle.elements.proofs.times.Tie as tie
 
-spread-of-requires : tie.Need-spread-of-requires
-spread-of-requires c κs = search needs
+abbrev Inv-loop : tie.InvT-loop
+Inv-loop a k r₀ i₀ r i = Filled (pos 0) 8 (λ i. continued (a .components) (7 + i - k) +ℤ continued (a .components) (7 + i + k)) i r
 
-product-requires : tie.Need-product-requires
-product-requires c κs = (rw (c .spread-of .ensures) (within-spread (c .before .pre .0)), search needs)
+abbrev μ-loop : tie.MeasureT-loop
+μ-loop a k r₀ i₀ r i = 8 - i
 
-returns : tie.Need-returns
+loop-holds : tie.Need-loop-holds Inv-loop μ-loop
+loop-holds c = filled-none refl
+
+add-continued : tie.Need-add-continued Inv-loop μ-loop
+add-continued c = omega arith
+
+sub-continued : tie.Need-sub-continued Inv-loop μ-loop
+sub-continued c = omega arith
+
+continued-requires : tie.Need-continued-requires Inv-loop μ-loop
+continued-requires c κs = (c .before .before .pre .0, omega arith)
+
+add-continued-2 : tie.Need-add-continued-2 Inv-loop μ-loop
+add-continued-2 c = omega arith
+
+add-continued-3 : tie.Need-add-continued-3 Inv-loop μ-loop
+add-continued-3 c = omega arith
+
+continued-requires-2 : tie.Need-continued-requires-2 Inv-loop μ-loop
+continued-requires-2 c κs = (c .before .before .before .pre .0, omega arith)
+
+plus-requires : tie.Need-plus-requires Inv-loop μ-loop
+plus-requires c κs =
+    let start = c .before .before .before .before in
+    let w = start .pre .0 in
+    rw (c .before .continued .ensures, c .continued2 .ensures)
+    (op-fits _+ℤ_ natAbs-add w32 {B = headroom} (lit< tt) (continued (start .args .a .components) _) (continued (start .args .a .components) _)
+    (within-continued w _) (within-continued w _))
+
+mul-r : tie.Need-mul-r Inv-loop μ-loop
+mul-r c = omega arith
+
+array-set-from-r : tie.Need-array-set-from-r Inv-loop μ-loop
+array-set-from-r c = omega arith
+
+add-i : tie.Need-add-i Inv-loop μ-loop
+add-i c = omega arith
+
+loop-less : tie.Need-loop-less Inv-loop μ-loop
+loop-less c = omega arith
+
+loop-again : tie.Need-loop-again Inv-loop μ-loop
+loop-again c =
+    let start = c .before .before .before .before .before in
+    let i = c .before .before .before .before .loop .i in
+    let k = start .args .k in
+    let u = continued (start .args .a .components) in
+    let w = start .pre .0 in
+    filled-more (omega arith) (c .before .before .before .before .loop .inv)
+    (op-kept _+ℤ_ natAbs-add w32 {B = headroom} (lit< tt) (u (7 + i - k)) (u (7 + i + k)) (within-continued w (7 + i - k)) (within-continued w (7 + i + k))
+    (c .plus .ensures ∙ ap₂ (λ x y. toZ w32 (ofZ w32 x) +ℤ toZ w32 (ofZ w32 y)) (c .before .before .continued .ensures) (c .before .continued2 .ensures)))
+
+returns : tie.Need-returns Inv-loop μ-loop
 returns c =
     let start = c .before .before in
     let e : Eight (start .args .a .components) = record { eight = search needs } in
-    c .product .ensures ∙ ap (λ s. folded s (start .args .k)) (c .before .spread-of .ensures) ∙ folded-spread (start .args .k) (start .pre .1) e
+    filled-all (omega arith) (c .before .loop .inv) ∙ sym (product-table (start .args .k) (start .pre .1) e)
 
 pub times-spec : {M : Type 1} → statement M
-times-spec = tie.close (tie.spec spread-of-requires product-requires returns)
+times-spec =
+    tie.close
+    (tie.spec
+    Inv-loop
+    μ-loop
+    loop-holds
+    add-continued
+    sub-continued
+    continued-requires
+    add-continued-2
+    add-continued-3
+    continued-requires-2
+    plus-requires
+    mul-r
+    array-set-from-r
+    add-i
+    loop-less
+    loop-again
+    returns)

@@ -2,20 +2,11 @@
 -- if u is continued as the cosines are: u_(-m) = u_m, u_8 = 0 and u_(16-m) = -u_m. The indices run from -7 to 14.
 use mathlib.Core.Bool.{cond}
 use mathlib.Core.List.{List}
-use Prim.Native.Nat.{ℕ, _+_, _-_}
+use Prim.Native.Nat.{ℕ, _-_}
 use lib.Dec.{ltb}
-use lib.IntN.{ℤ, _+ℤ_, negℤ}
-use Rattle.integers.specs.Table.{table}
+use lib.IntN.{ℤ, negℤ}
 use Rattle.ring.specs.Element.{component}
 
 -- u_(j-7), for j from 0 to 21
 unfoldable pub continued : List ℤ → ℕ → ℤ
 continued u j = cond (ltb j 7) (component u (7 - j)) (cond (ltb j 16) (component u (j - 7)) (negℤ (component u (23 - j))))
-
--- all of them
-unfoldable pub spread : List ℤ → List ℤ
-spread u = table 22 (continued u)
-
--- the product with c_k of the element whose spread is s
-unfoldable pub folded : List ℤ → ℕ → List ℤ
-folded s k = table 8 (λ i. component s (7 + i - k) +ℤ component s (7 + i + k))

@@ -1,0 +1,2 @@
+-- Room for the sums of a step.
+pub mod Rooms

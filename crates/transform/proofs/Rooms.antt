@@ -1,0 +1,87 @@
+-- Room for the sums of a step: a sum or a difference of two elements needs one bit more than they do.
+-- Assumes nothing.
+use mathlib.Core.Path.{_≡_, ap, _∙_}
+use mathlib.Core.List.{List, [], _∷_}
+use Prim.Native.Nat.{ℕ, zero, suc, _+_, _*_, _-_, _≤_, _<_}
+use native.Mathlib.Nat.{pow-suc}
+use native.Mathlib.Omega.{arith}
+use lib.IntN.{ℤ, pos, negsuc}
+use lib.Pow.{pow-pos}
+use Rattle.integers.proofs.Sums.{sum-cong}
+use Rattle.ring.specs.Element.{add, subtract, cosine, mul}
+use Rattle.ring.proofs.Components.{Eight, eight-add, eight-scale}
+use Rattle.dct.specs.Transform.{factor, step, half-step}
+use Rattle.dct.proofs.Halves.{even-step, odd-step}
+use Rattle.elements.specs.declared.Element.{Element}
+use Rattle.elements.specs.Bound.{Within, room}
+use Rattle.elements.specs.Buffer.{Row, entry}
+use Rattle.elements.proofs.Bounds.{within-le, within-times}
+use Rattle.elements.proofs.Componentwise.{within-add, within-subtract}
+use Rattle.transform.specs.Step.{Room}
+
+one-bit : (n : ℕ) → room n + room n ≤ room (suc n)
+one-bit n = omega (arith, pow-suc 2 n, pow-pos n)
+
+pub room-add : (n : ℕ) {a b : List ℤ} → Within (room n) a → Within (room n) b → Within (room (suc n)) (add a b)
+room-add n p q = within-le (one-bit n) (within-add p q)
+
+pub room-subtract : (n : ℕ) {a b : List ℤ} → Within (room n) a → Within (room n) b → Within (room (suc n)) (subtract a b)
+room-subtract n p q = within-le (one-bit n) (within-subtract p q)
+
+pub room-times : (n k : ℕ) → k < 8 → {a : List ℤ} → Eight a → Within (room n) a → Within (room (suc n)) (mul (cosine (pos k)) a)
+room-times n k h e p = within-le (one-bit n) (within-times k h e p)
+
+-- fewer bits than there is room for
+pub wide : (n : ℕ) {a : List ℤ} → Within (room n) a → Within (room (suc n)) a
+wide n p = within-le (omega (arith, one-bit n)) p
+
+-- ---- an array that is written out
+
+pub row-4 : {f : ℕ → List ℤ} {a b c d : Element} → a .components ≡ f 0 → b .components ≡ f 1 → c .components ≡ f 2 → d .components ≡ f 3
+    → Row 4 f (a ∷ b ∷ c ∷ d ∷ [])
+row-4 {f} {a} {b} {c} {d} p q r s = record { at = go }
+  where
+    go : (i : ℕ) → i < 4 → entry (a ∷ b ∷ c ∷ d ∷ []) i ≡ f i
+    go zero h = p
+    go (suc zero) h = q
+    go (suc (suc zero)) h = r
+    go (suc (suc (suc zero))) h = s
+    go (suc (suc (suc (suc i)))) h = absurd (omega arith)
+
+pub row-8 : {f : ℕ → List ℤ} {a b c d e g h i : Element} → a .components ≡ f 0 → b .components ≡ f 1 → c .components ≡ f 2 → d .components ≡ f 3
+    → e .components ≡ f 4 → g .components ≡ f 5 → h .components ≡ f 6 → i .components ≡ f 7 → Row 8 f (a ∷ b ∷ c ∷ d ∷ e ∷ g ∷ h ∷ i ∷ [])
+row-8 {f} {a} {b} {c} {d} {e} {g} {h} {i} p q r s t u v w = record { at = go }
+  where
+    go : (k : ℕ) → k < 8 → entry (a ∷ b ∷ c ∷ d ∷ e ∷ g ∷ h ∷ i ∷ []) k ≡ f k
+    go zero l = p
+    go (suc zero) l = q
+    go (suc (suc zero)) l = r
+    go (suc (suc (suc zero))) l = s
+    go (suc (suc (suc (suc k)))) l = row-4 {f = λ k. f (suc (suc (suc (suc k))))} {a = e} {b = g} {c = h} {d = i} t u v w .at k (omega arith)
+
+-- ---- the sums and differences of a row
+
+pub eights : {m n : ℕ} {x : List Element} → Room m n x → (i : ℕ) → i < m → Eight (entry x i)
+eights room i h = record { eight = room .eights i h }
+
+module _ {x s : List Element} (room : Room 8 27 x) where
+  pub room-sums : Row 4 (λ n. add (entry x n) (entry x (7 - n))) s → Room 4 28 s
+  room-sums row = record {
+    eights = λ n h. rw (row .at n h) (eight-add (eights room n (omega arith)) (eights room (7 - n) (omega arith)) .eight);
+    within = λ n h. rw (row .at n h) (room-add 27 (room .within n (omega arith)) (room .within (7 - n) (omega arith)));
+  }
+
+  pub room-differences : Row 4 (λ n. subtract (entry x n) (entry x (7 - n))) s → Room 4 28 s
+  room-differences row = record {
+    eights = λ n h. rw (row .at n h) (eight-add (eights room n (omega arith)) (eight-scale (negsuc 0) (eights room (7 - n) (omega arith))) .eight);
+    within = λ n h. rw (row .at n h) (room-subtract 27 (room .within n (omega arith)) (room .within (7 - n) (omega arith)));
+  }
+
+  -- the even frequencies are half-steps of the sums, the odd ones of the differences
+  pub from-sums : Row 4 (λ n. add (entry x n) (entry x (7 - n))) s → (i : ℕ) → i < 4 → half-step (entry s) (2 * i) ≡ step (entry x) (2 * i)
+  unfolding half-step
+  from-sums row i h = sum-cong [] add 4 _ _ (λ n l. ap (λ a. mul a (factor (2 * i) n)) (row .at n l)) ∙ even-step (entry x) (eights room) i h
+
+  pub from-differences : Row 4 (λ n. subtract (entry x n) (entry x (7 - n))) s → (i : ℕ) → i < 4 → half-step (entry s) (2 * i + 1) ≡ step (entry x) (2 * i + 1)
+  unfolding half-step
+  from-differences row i h = sum-cong [] add 4 _ _ (λ n l. ap (λ a. mul a (factor (2 * i + 1) n)) (row .at n l)) ∙ odd-step (entry x) (eights room) i h
