@@ -36,6 +36,15 @@ last-dimension d x p =
     entry : (q n : ℕ) → n < 8 → scale (x (q * 8 + n)) (factors (suc d) p (q * 8 + n)) ≡ term n q
     entry q n l = ap (scale (x (q * 8 + n))) (factors-place d p q n l) ∙ sym (mul-left (t n) .multiples (x (q * 8 + n)) (factors d (p / 8) q))
 
+-- ---- one dimension: a step over whole numbers
+
+pub first-dimension : (x : ℕ → ℤ) (k : ℕ) → k < 8 → element 1 x k ≡ step (λ n. number (x n)) k
+unfolding element step factors
+first-dimension x k h = sum-cong [] add 8 _ _ (λ n l. ap (scale (x n)) (term n l) ∙ sym (mul-number (x n) (eight-factor k n)))
+  where
+    term : (n : ℕ) → n < 8 → mul (number (pos 1)) (factor (k % 8) (n % 8)) ≡ factor k n
+    term n l = rw (mod-eq-of-lt h, mod-eq-of-lt l) (mul-one (eight-factor k n))
+
 -- ---- two dimensions
 
 two-factors : (u v i j : ℕ) → u < 8 → v < 8 → i < 8 → j < 8 → factors 2 (8 * u + v) (i * 8 + j) ≡ mul (factor u i) (factor v j)

@@ -2,3 +2,4 @@
 pub mod Componentwise
 pub mod Products
 pub mod Bounds
+pub mod Buffers

@@ -1,15 +1,22 @@
 -- Elements in a buffer of numbers, and in an array of records (01, "Elements").
 use mathlib.Core.Path.{_≡_}
+use mathlib.Core.Bool.{cond}
 use mathlib.Core.List.{List, []}
-use Prim.Native.Nat.{ℕ, _+_, _*_, _<_}
+use Prim.Native.Nat.{ℕ, _+_, _*_, _/_, _%_, _<_}
+use lib.Dec.{eqb}
 use lib.IntN.{ℤ, pos}
-use lib.ListN.{getD}
+use lib.ListN.{length, getD}
 use Rattle.integers.specs.Table.{table}
+use Rattle.ring.specs.Element.{component}
 use Rattle.elements.specs.declared.Element.{Element}
 
 -- element p of a buffer: it "starts at index 8·(8u+v), component 0 first", where p = 8u+v is its number
 unfoldable pub element-at : List ℤ → ℕ → List ℤ
 element-at l p = table 8 (λ k. getD l (8 * p + k) (pos 0))
+
+-- a buffer after the element u is stored as its element p
+unfoldable pub put : List ℤ → ℕ → List ℤ → List ℤ
+put l p u = table (length l) (λ i. cond (eqb (i / 8) p) (component u (i % 8)) (getD l i (pos 0)))
 
 -- the components of element n of an array
 abbrev pub entry : List Element → ℕ → List ℤ

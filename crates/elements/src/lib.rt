@@ -5,10 +5,12 @@
 // of two can wrap. A sum or a difference at most adds the bounds of its operands (`within-add`, `within-subtract`), and a product
 // with c_k doubles its operand's (`within-times`): a caller that knows a bound at the start knows one at each step.
 ghost use mathlib.Core.Path.{_≡_};
-ghost use Prim.Native.Nat.{_<_};
+ghost use Prim.Native.Nat.{_*_, _+_, _<_, _≤_};
 ghost use lib.IntN.{pos};
+ghost use lib.ListN.{length};
 ghost use Rattle.ring.specs.Element as ring;
 ghost use Rattle.elements.specs.Bound.{Within, headroom};
+ghost use Rattle.elements.specs.Buffer as buffers;
 ghost use Rattle.elements.specs.Continued as spec;
 use integers::minus;
 use integers::plus;
@@ -94,4 +96,17 @@ pub fn times(a: Element, k: usize) -> Element
         i += 1;
     }
     Element { components: r }
+}
+
+// Stores a as element p of a buffer.
+pub fn put(buffer: &mut [i32], p: usize, a: Element)
+    requires { ⌜ 8 * p + 8 ≤ length (now buffer) ⌝ }
+    ensures { λ r. ⌜ now (buffer .exit) ≡ buffers.put (now (buffer .entry)) p (a .components) ⌝ }
+{
+    let u = a.components;
+    let mut k = 0;
+    while k < 8 {
+        buffer[8 * p + k] = u[k];
+        k += 1;
+    }
 }

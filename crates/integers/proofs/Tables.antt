@@ -27,23 +27,34 @@ module _ {A : Type 0} where
 
 -- ---- a loop that fills a buffer from the front
 
--- the buffer l has n places, and the first i hold f 0 to f (i - 1); d is what `getD` gives past the end
-pub record Filled {A : Type 0} (d : A) (n : ℕ) (f : ℕ → A) (i : ℕ) (l : List A) : Type 0 where
+-- the buffer l has n places, and P holds of each of the first i; d is what `getD` gives past the end
+pub record Each {A : Type 0} (d : A) (n : ℕ) (P : ℕ → A → Type 0) (i : ℕ) (l : List A) : Type 0 where
   pub size : length l ≡ n
   pub room : i ≤ n
-  pub done : (k : ℕ) → k < i → getD l k d ≡ f k
+  pub done : (k : ℕ) → k < i → P k (getD l k d)
+
+module _ {A : Type 0} {d : A} {n : ℕ} {P : ℕ → A → Type 0} where
+  pub each-none : {l : List A} → length l ≡ n → Each d n P 0 l
+  each-none e = record { size = e; room = zero-le; done = λ k h. absurd (not-suc-le-zero h) }
+
+  pub each-more : {i : ℕ} {l : List A} {v : A} → i < n → Each d n P i l → P i v → Each d n P (i + 1) (set l i v)
+  each-more {i} {l} {v} h F p =
+      record { size = length-set l i v ∙ F .size; room = omega arith; done = λ k b. go k b (ℕ-discrete k i) }
+    where
+      go : (k : ℕ) → k < i + 1 → Dec (k ≡ i) → P k (getD (set l i v) k d)
+      go k b (yes e) = rw (e, getD-set-same l i v d (rw (F .size) h)) p
+      go k b (no q) = rw (getD-set-other l i k v d q) (F .done k (omega arith))
+
+-- the first i places hold f 0 to f (i - 1)
+pub record Filled {A : Type 0} (d : A) (n : ℕ) (f : ℕ → A) (i : ℕ) (l : List A) : Type 0 where
+  pub each : Each d n (λ k v. v ≡ f k) i l
 
 module _ {A : Type 0} {d : A} {n : ℕ} {f : ℕ → A} where
   pub filled-none : {l : List A} → length l ≡ n → Filled d n f 0 l
-  filled-none e = record { size = e; room = zero-le; done = λ k h. absurd (not-suc-le-zero h) }
+  filled-none e = record { each = each-none e }
 
   pub filled-more : {i : ℕ} {l : List A} {v : A} → i < n → Filled d n f i l → v ≡ f i → Filled d n f (i + 1) (set l i v)
-  filled-more {i} {l} {v} h F e =
-      record { size = length-set l i v ∙ F .size; room = omega arith; done = λ k b. go k b (ℕ-discrete k i) }
-    where
-      go : (k : ℕ) → k < i + 1 → Dec (k ≡ i) → getD (set l i v) k d ≡ f k
-      go k b (yes p) = rw p (getD-set-same l i v d (rw (F .size) h) ∙ e)
-      go k b (no q) = getD-set-other l i k v d q ∙ F .done k (omega arith)
+  filled-more h F e = record { each = each-more h (F .each) e }
 
   pub filled-all : {i : ℕ} {l : List A} → n ≤ i → Filled d n f i l → l ≡ table n f
-  filled-all {i} {l} h F = is-table d l n f (F .size) (λ k b. F .done k (omega arith))
+  filled-all {i} {l} h F = is-table d l n f (F .each .size) (λ k b. F .each .done k (omega arith))

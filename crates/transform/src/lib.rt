@@ -1,15 +1,24 @@
 // The exact transform of a block: the 8-point step, and forward.
 ghost use mathlib.Core.Path.{_≡_};
-ghost use Prim.Native.Nat.{_*_, _+_, _-_, _<_};
+ghost use mathlib.Core.Bool.{not};
+ghost use Prim.Native.Nat.{_%_, _*_, _+_, _-_, _/_, _<_};
 ghost use lib.IntN.{pos};
+ghost use lib.ListN.{length};
+ghost use Rattle.integers.specs.Search.{first};
+ghost use Rattle.integers.specs.Table.{table};
 ghost use Rattle.ring.specs.Element as ring;
+ghost use Rattle.dct.specs.Limits.{components-size, in-range, samples-size};
 ghost use Rattle.dct.specs.Transform as dct;
+ghost use Rattle.answers.specs.Answer.{returned};
 ghost use Rattle.elements.specs.Bound.{Within, room};
 ghost use Rattle.elements.specs.Buffer.{Row, entry};
-ghost use Rattle.transform.specs.Step.{Room};
+ghost use Rattle.transform.specs.Forward.{forward-elements, forward-returned, sample};
+ghost use Rattle.transform.specs.Step.{Room, Rooms, Rows, row};
+use answers::Answer;
 use elements::Element;
 use elements::add;
 use elements::only;
+use elements::put;
 use elements::subtract;
 use elements::times;
 
@@ -65,9 +74,18 @@ fn odd(d: [Element; 4]) -> [Element; 4]
     let d2 = d[2];
     let d3 = d[3];
     let e1 = add(sum_of_products(d0, 1, d1, 3), sum_of_products(d2, 5, d3, 7));
-    let e3 = subtract(difference_of_products(d0, 3, d1, 7), sum_of_products(d2, 1, d3, 5));
-    let e5 = add(difference_of_products(d0, 5, d1, 1), sum_of_products(d2, 7, d3, 3));
-    let e7 = add(difference_of_products(d0, 7, d1, 5), difference_of_products(d2, 3, d3, 1));
+    let e3 = subtract(
+        difference_of_products(d0, 3, d1, 7),
+        sum_of_products(d2, 1, d3, 5),
+    );
+    let e5 = add(
+        difference_of_products(d0, 5, d1, 1),
+        sum_of_products(d2, 7, d3, 3),
+    );
+    let e7 = add(
+        difference_of_products(d0, 7, d1, 5),
+        difference_of_products(d2, 3, d3, 1),
+    );
     [e1, e3, e5, e7]
 }
 
@@ -107,4 +125,103 @@ pub fn step(x: [Element; 8]) -> [Element; 8]
     let e = even(sums(x));
     let o = odd(differences(x));
     [e[0], o[0], e[1], o[1], e[2], o[2], e[3], o[3]]
+}
+
+// The samples of a block as whole numbers, each column of the block a row.
+fn columns(samples: &[i32]) -> [[Element; 8]; 8]
+    requires { ⌜ length (now samples) ≡ samples-size ⌝ }
+    ensures { λ r. ⌜ Rows (λ j i. ring.number (sample (now (samples .entry)) (8 * i + j))) r ⌝ }
+{
+    let zero = only(0, 0);
+    let mut r = [[zero; 8]; 8];
+    let mut n = 0;
+    while n < 64 {
+        r[n / 8][n % 8] = only(samples[8 * (n % 8) + n / 8], 0);
+        n += 1;
+    }
+    r
+}
+
+// A step over each row.
+fn steps(x: [[Element; 8]; 8]) -> [[Element; 8]; 8]
+    requires { ⌜ Rooms 27 x ⌝ }
+    ensures { λ r. ⌜ Rows (λ i. dct.step (entry (row x i))) r ⌝ }
+{
+    let mut r = x;
+    let mut i = 0;
+    while i < 8 {
+        r[i] = step(x[i]);
+        i += 1;
+    }
+    r
+}
+
+// Rows and columns change places.
+fn transposed(x: [[Element; 8]; 8]) -> [[Element; 8]; 8]
+    ensures { λ r. ⌜ Rows (λ i j. entry (row x j) i) r ⌝ }
+{
+    let zero = only(0, 0);
+    let mut r = [[zero; 8]; 8];
+    let mut n = 0;
+    while n < 64 {
+        r[n / 8][n % 8] = x[n % 8][n / 8];
+        n += 1;
+    }
+    r
+}
+
+// All elements into a buffer.
+fn store(e: [[Element; 8]; 8], elements: &mut [i32])
+    requires { ⌜ length (now elements) ≡ components-size ⌝ }
+    ensures { λ r. ⌜ now (elements .exit) ≡ table components-size (λ i. ring.component (entry (row e (i / 8 / 8)) (i / 8 % 8)) (i % 8)) ⌝ }
+{
+    let mut p = 0;
+    while p < 64 {
+        put(elements, p, e[p / 8][p % 8]);
+        p += 1;
+    }
+}
+
+// Whether a sample is out of range.
+fn outside(x: i32) -> bool
+    ensures { λ r. ⌜ r ≡ not (in-range x) ⌝ }
+{
+    if x < -2048 {
+        return true;
+    }
+    2047 < x
+}
+
+// The lowest index of a sample that is out of range, and 64 where there is none.
+fn first_outside(samples: &[i32]) -> usize
+    requires { ⌜ length (now samples) ≡ samples-size ⌝ }
+    ensures { λ r. ⌜ r ≡ first samples-size (λ i. not (in-range (sample (now (samples .entry)) i))) ⌝ }
+{
+    let mut i = 0;
+    while i < 64 {
+        if outside(samples[i]) {
+            return i;
+        }
+        i += 1;
+    }
+    64
+}
+
+// The exact elements of a block of 64 samples, or the reason why there are none; then `elements` is as it was.
+pub fn forward(samples: &[i32], elements: &mut [i32]) -> Answer
+    ensures { λ r. ⌜ returned r ≡ forward-returned (now (samples .entry)) (now (elements .entry)) ⌝ }
+    ensures { λ r. ⌜ now (elements .exit) ≡ forward-elements (now (samples .entry)) (now (elements .entry)) ⌝ }
+{
+    if samples.len() != 64 {
+        return Answer::Lengths;
+    }
+    if elements.len() != 512 {
+        return Answer::Lengths;
+    }
+    let i = first_outside(samples);
+    if i < 64 {
+        return Answer::Sample(i);
+    }
+    store(steps(transposed(steps(columns(samples)))), elements);
+    Answer::Accepted
 }

@@ -11,7 +11,7 @@ use Rattle.ring.proofs.Components.{Eight}
 use Rattle.dct.proofs.Halves.{even-half}
 use Rattle.elements.specs.Buffer.{entry}
 use Rattle.elements.proofs.Bounds.{within-le}
-use Rattle.transform.proofs.Rooms.{room-add, room-subtract, row-4}
+use Rattle.transform.proofs.Halves.{room-add, room-subtract, row-4}
 use Rattle.transform.proofs.even.Statement.{statement}
 use Rattle.transform.proofs.even.Tie as tie
 
@@ -49,39 +49,47 @@ subtract-requires-2 c κs =
 
 add-requires-3 : tie.Need-add-requires-3
 add-requires-3 c κs =
-    let room = c .before .before .before .before .before .before .before .before .pre in
-    (rw (c .before .before .before .add .ensures) (within-le (omega arith) (room-add 28 (room .within 0 (lit< tt)) (room .within 3 (lit< tt)))),
-     rw (c .before .before .add2 .ensures) (within-le (omega arith) (room-add 28 (room .within 1 (lit< tt)) (room .within 2 (lit< tt)))))
+    let room = c .before .before .before .before .before .before .before .before .pre in (
+      rw (c .before .before .before .add .ensures) (within-le (omega arith) (room-add 28 (room .within 0 (lit< tt)) (room .within 3 (lit< tt)))),
+      rw (c .before .before .add2 .ensures) (within-le (omega arith) (room-add 28 (room .within 1 (lit< tt)) (room .within 2 (lit< tt)))),
+    )
 
 times-requires : tie.Need-times-requires
 times-requires c κs =
-    let room = c .before .before .before .before .before .before .before .before .before .pre in
-    (rw (c .add3 .ensures, c .before .before .before .before .add .ensures, c .before .before .before .add2 .ensures)
-     (room-add 29 (room-add 28 (room .within 0 (lit< tt)) (room .within 3 (lit< tt))) (room-add 28 (room .within 1 (lit< tt)) (room .within 2 (lit< tt)))), lit< tt)
+    let room = c .before .before .before .before .before .before .before .before .before .pre in (
+      rw (c .add3 .ensures, c .before .before .before .before .add .ensures, c .before .before .before .add2 .ensures)
+          (room-add 29 (room-add 28 (room .within 0 (lit< tt)) (room .within 3 (lit< tt))) (room-add 28 (room .within 1 (lit< tt)) (room .within 2 (lit< tt)))),
+      lit< tt,
+    )
 
 sum-of-products-requires : tie.Need-sum-of-products-requires
 sum-of-products-requires c κs =
-    let room = c .before .before .before .before .before .before .before .before .before .before .pre in
-    (rw (c .before .before .before .subtract .ensures) (room-subtract 28 (room .within 0 (lit< tt)) (room .within 3 (lit< tt))),
-     (rw (c .before .before .subtract2 .ensures) (room-subtract 28 (room .within 1 (lit< tt)) (room .within 2 (lit< tt))), (lit< tt, lit< tt)))
+    let room = c .before .before .before .before .before .before .before .before .before .before .pre in (
+      rw (c .before .before .before .subtract .ensures) (room-subtract 28 (room .within 0 (lit< tt)) (room .within 3 (lit< tt))),
+      (rw (c .before .before .subtract2 .ensures) (room-subtract 28 (room .within 1 (lit< tt)) (room .within 2 (lit< tt))), (lit< tt, lit< tt)),
+    )
 
 subtract-requires-3 : tie.Need-subtract-requires-3
 subtract-requires-3 c κs =
-    let room = c .before .before .before .before .before .before .before .before .before .before .before .pre in
-    (rw (c .before .before .before .before .before .before .add .ensures) (within-le (omega arith) (room-add 28 (room .within 0 (lit< tt)) (room .within 3 (lit< tt)))),
-     rw (c .before .before .before .before .before .add2 .ensures) (within-le (omega arith) (room-add 28 (room .within 1 (lit< tt)) (room .within 2 (lit< tt)))))
+    let room = c .before .before .before .before .before .before .before .before .before .before .before .pre in (
+      rw (c .before .before .before .before .before .before .add .ensures) (within-le (omega arith) (room-add 28 (room .within 0 (lit< tt)) (room .within 3 (lit< tt)))),
+      rw (c .before .before .before .before .before .add2 .ensures) (within-le (omega arith) (room-add 28 (room .within 1 (lit< tt)) (room .within 2 (lit< tt)))),
+    )
 
 times-requires-2 : tie.Need-times-requires-2
 times-requires-2 c κs =
-    let room = c .before .before .before .before .before .before .before .before .before .before .before .before .pre in
-    (rw (c .subtract3 .ensures, c .before .before .before .before .before .before .before .add .ensures, c .before .before .before .before .before .before .add2 .ensures)
-     (room-subtract 29 (room-add 28 (room .within 0 (lit< tt)) (room .within 3 (lit< tt))) (room-add 28 (room .within 1 (lit< tt)) (room .within 2 (lit< tt)))), lit< tt)
+    let room = c .before .before .before .before .before .before .before .before .before .before .before .before .pre in (
+      rw (c .subtract3 .ensures, c .before .before .before .before .before .before .before .add .ensures, c .before .before .before .before .before .before .add2 .ensures)
+          (room-subtract 29 (room-add 28 (room .within 0 (lit< tt)) (room .within 3 (lit< tt))) (room-add 28 (room .within 1 (lit< tt)) (room .within 2 (lit< tt)))),
+      lit< tt,
+    )
 
 difference-of-products-requires : tie.Need-difference-of-products-requires
 difference-of-products-requires c κs =
-    let room = c .before .before .before .before .before .before .before .before .before .before .before .before .before .pre in
-    (rw (c .before .before .before .before .before .before .subtract .ensures) (room-subtract 28 (room .within 0 (lit< tt)) (room .within 3 (lit< tt))),
-     (rw (c .before .before .before .before .before .subtract2 .ensures) (room-subtract 28 (room .within 1 (lit< tt)) (room .within 2 (lit< tt))), (lit< tt, lit< tt)))
+    let room = c .before .before .before .before .before .before .before .before .before .before .before .before .before .pre in (
+      rw (c .before .before .before .before .before .before .subtract .ensures) (room-subtract 28 (room .within 0 (lit< tt)) (room .within 3 (lit< tt))),
+      (rw (c .before .before .before .before .before .subtract2 .ensures) (room-subtract 28 (room .within 1 (lit< tt)) (room .within 2 (lit< tt))), (lit< tt, lit< tt)),
+    )
 
 returns : tie.Need-returns
 returns c =

@@ -8,7 +8,7 @@ use Rattle.ring.specs.Element.{add, subtract}
 use Rattle.ring.proofs.Components.{Eight}
 use Rattle.dct.proofs.Halves.{odd-half}
 use Rattle.elements.specs.Buffer.{entry}
-use Rattle.transform.proofs.Rooms.{wide, room-times, room-add, room-subtract, row-4}
+use Rattle.transform.proofs.Halves.{wide, room-times, room-add, room-subtract, row-4}
 use Rattle.transform.proofs.odd.Statement.{statement}
 use Rattle.transform.proofs.odd.Tie as tie
 
@@ -37,9 +37,10 @@ sum-of-products-requires-2 c κs =
 add-requires : tie.Need-add-requires
 add-requires c κs =
     let room = c .before .before .before .before .before .before .pre in
-    let eights : (n : ℕ) → n < 4 → Eight (entry (c .before .before .before .before .before .before .args .t1) n) = λ n h. record { eight = room .eights n h } in
-    (rw (c .before .sum-of-products .ensures) (room-add 29 (room-times 28 1 (lit< tt) (eights 0 (lit< tt)) (room .within 0 (lit< tt))) (room-times 28 3 (lit< tt) (eights 1 (lit< tt)) (room .within 1 (lit< tt)))),
-     rw (c .sum-of-products2 .ensures) (room-add 29 (room-times 28 5 (lit< tt) (eights 2 (lit< tt)) (room .within 2 (lit< tt))) (room-times 28 7 (lit< tt) (eights 3 (lit< tt)) (room .within 3 (lit< tt)))))
+    let eights : (n : ℕ) → n < 4 → Eight (entry (c .before .before .before .before .before .before .args .t1) n) = λ n h. record { eight = room .eights n h } in (
+      rw (c .before .sum-of-products .ensures) (room-add 29 (room-times 28 1 (lit< tt) (eights 0 (lit< tt)) (room .within 0 (lit< tt))) (room-times 28 3 (lit< tt) (eights 1 (lit< tt)) (room .within 1 (lit< tt)))),
+      rw (c .sum-of-products2 .ensures) (room-add 29 (room-times 28 5 (lit< tt) (eights 2 (lit< tt)) (room .within 2 (lit< tt))) (room-times 28 7 (lit< tt) (eights 3 (lit< tt)) (room .within 3 (lit< tt)))),
+    )
 
 difference-of-products-requires : tie.Need-difference-of-products-requires
 difference-of-products-requires c κs =
@@ -54,9 +55,10 @@ sum-of-products-requires-3 c κs =
 subtract-requires : tie.Need-subtract-requires
 subtract-requires c κs =
     let room = c .before .before .before .before .before .before .before .before .before .pre in
-    let eights : (n : ℕ) → n < 4 → Eight (entry (c .before .before .before .before .before .before .before .before .before .args .t1) n) = λ n h. record { eight = room .eights n h } in
-    (rw (c .before .difference-of-products .ensures) (room-subtract 29 (room-times 28 3 (lit< tt) (eights 0 (lit< tt)) (room .within 0 (lit< tt))) (room-times 28 7 (lit< tt) (eights 1 (lit< tt)) (room .within 1 (lit< tt)))),
-     rw (c .sum-of-products3 .ensures) (room-add 29 (room-times 28 1 (lit< tt) (eights 2 (lit< tt)) (room .within 2 (lit< tt))) (room-times 28 5 (lit< tt) (eights 3 (lit< tt)) (room .within 3 (lit< tt)))))
+    let eights : (n : ℕ) → n < 4 → Eight (entry (c .before .before .before .before .before .before .before .before .before .args .t1) n) = λ n h. record { eight = room .eights n h } in (
+      rw (c .before .difference-of-products .ensures) (room-subtract 29 (room-times 28 3 (lit< tt) (eights 0 (lit< tt)) (room .within 0 (lit< tt))) (room-times 28 7 (lit< tt) (eights 1 (lit< tt)) (room .within 1 (lit< tt)))),
+      rw (c .sum-of-products3 .ensures) (room-add 29 (room-times 28 1 (lit< tt) (eights 2 (lit< tt)) (room .within 2 (lit< tt))) (room-times 28 5 (lit< tt) (eights 3 (lit< tt)) (room .within 3 (lit< tt)))),
+    )
 
 difference-of-products-requires-2 : tie.Need-difference-of-products-requires-2
 difference-of-products-requires-2 c κs =
@@ -71,9 +73,10 @@ sum-of-products-requires-4 c κs =
 add-requires-2 : tie.Need-add-requires-2
 add-requires-2 c κs =
     let room = c .before .before .before .before .before .before .before .before .before .before .before .before .pre in
-    let eights : (n : ℕ) → n < 4 → Eight (entry (c .before .before .before .before .before .before .before .before .before .before .before .before .args .t1) n) = λ n h. record { eight = room .eights n h } in
-    (rw (c .before .difference-of-products2 .ensures) (room-subtract 29 (room-times 28 5 (lit< tt) (eights 0 (lit< tt)) (room .within 0 (lit< tt))) (room-times 28 1 (lit< tt) (eights 1 (lit< tt)) (room .within 1 (lit< tt)))),
-     rw (c .sum-of-products4 .ensures) (room-add 29 (room-times 28 7 (lit< tt) (eights 2 (lit< tt)) (room .within 2 (lit< tt))) (room-times 28 3 (lit< tt) (eights 3 (lit< tt)) (room .within 3 (lit< tt)))))
+    let eights : (n : ℕ) → n < 4 → Eight (entry (c .before .before .before .before .before .before .before .before .before .before .before .before .args .t1) n) = λ n h. record { eight = room .eights n h } in (
+      rw (c .before .difference-of-products2 .ensures) (room-subtract 29 (room-times 28 5 (lit< tt) (eights 0 (lit< tt)) (room .within 0 (lit< tt))) (room-times 28 1 (lit< tt) (eights 1 (lit< tt)) (room .within 1 (lit< tt)))),
+      rw (c .sum-of-products4 .ensures) (room-add 29 (room-times 28 7 (lit< tt) (eights 2 (lit< tt)) (room .within 2 (lit< tt))) (room-times 28 3 (lit< tt) (eights 3 (lit< tt)) (room .within 3 (lit< tt)))),
+    )
 
 difference-of-products-requires-3 : tie.Need-difference-of-products-requires-3
 difference-of-products-requires-3 c κs =
@@ -88,9 +91,10 @@ difference-of-products-requires-4 c κs =
 add-requires-3 : tie.Need-add-requires-3
 add-requires-3 c κs =
     let room = c .before .before .before .before .before .before .before .before .before .before .before .before .before .before .before .pre in
-    let eights : (n : ℕ) → n < 4 → Eight (entry (c .before .before .before .before .before .before .before .before .before .before .before .before .before .before .before .args .t1) n) = λ n h. record { eight = room .eights n h } in
-    (rw (c .before .difference-of-products3 .ensures) (room-subtract 29 (room-times 28 7 (lit< tt) (eights 0 (lit< tt)) (room .within 0 (lit< tt))) (room-times 28 5 (lit< tt) (eights 1 (lit< tt)) (room .within 1 (lit< tt)))),
-     rw (c .difference-of-products4 .ensures) (room-subtract 29 (room-times 28 3 (lit< tt) (eights 2 (lit< tt)) (room .within 2 (lit< tt))) (room-times 28 1 (lit< tt) (eights 3 (lit< tt)) (room .within 3 (lit< tt)))))
+    let eights : (n : ℕ) → n < 4 → Eight (entry (c .before .before .before .before .before .before .before .before .before .before .before .before .before .before .before .args .t1) n) = λ n h. record { eight = room .eights n h } in (
+      rw (c .before .difference-of-products3 .ensures) (room-subtract 29 (room-times 28 7 (lit< tt) (eights 0 (lit< tt)) (room .within 0 (lit< tt))) (room-times 28 5 (lit< tt) (eights 1 (lit< tt)) (room .within 1 (lit< tt)))),
+      rw (c .difference-of-products4 .ensures) (room-subtract 29 (room-times 28 3 (lit< tt) (eights 2 (lit< tt)) (room .within 2 (lit< tt))) (room-times 28 1 (lit< tt) (eights 3 (lit< tt)) (room .within 3 (lit< tt)))),
+    )
 
 returns : tie.Need-returns
 returns c =

@@ -3,7 +3,7 @@
 use mathlib.Core.Path.{_∙_}
 use lib.Dec.{lit<}
 use borrow.Author.Needs.{needs}
-use Rattle.transform.proofs.Rooms.{row-8, room-sums, room-differences, from-sums, from-differences}
+use Rattle.transform.proofs.Halves.{row-8, room-sums, room-differences, from-sums, from-differences}
 use Rattle.transform.proofs.step.Statement.{statement}
 use Rattle.transform.proofs.step.Tie as tie
 

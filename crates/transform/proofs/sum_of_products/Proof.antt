@@ -20,9 +20,10 @@ add-requires : tie.Need-add-requires
 add-requires c κs =
     let start = c .before .before in
     let p : Eight (start .args .a .components) = record { eight = search needs } in
-    let q : Eight (start .args .b .components) = record { eight = search needs } in
-    (rw (c .before .times .ensures) (within-le (omega arith) (within-times (start .args .j) (start .pre .1 .1 .0) p (start .pre .0))),
-     rw (c .times2 .ensures) (within-le (omega arith) (within-times (start .args .k) (start .pre .1 .1 .1) q (start .pre .1 .0))))
+    let q : Eight (start .args .b .components) = record { eight = search needs } in (
+      rw (c .before .times .ensures) (within-le (omega arith) (within-times (start .args .j) (start .pre .1 .1 .0) p (start .pre .0))),
+      rw (c .times2 .ensures) (within-le (omega arith) (within-times (start .args .k) (start .pre .1 .1 .1) q (start .pre .1 .0))),
+    )
 
 returns : tie.Need-returns
 returns c = c .add .ensures ∙ ap₂ add (c .before .before .times .ensures) (c .before .times2 .ensures)

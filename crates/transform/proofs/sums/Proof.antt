@@ -1,11 +1,11 @@
 -- `sums` meets its contract: the loop fills the row, one sum after the other.
 -- Assumes nothing.
-use mathlib.Core.Path.{refl, ap}
+use mathlib.Core.Path.{_≡_, refl}
 use mathlib.Core.List.{[]}
 use Prim.Native.Nat.{_-_}
 use native.Mathlib.Omega.{arith}
 use borrow.Author.Needs.{needs}
-use Rattle.integers.proofs.Tables.{Filled, filled-none, filled-more}
+use Rattle.integers.proofs.Tables.{Each, each-none, each-more}
 use Rattle.ring.specs.Element.{add}
 use Rattle.elements.specs.Buffer.{entry}
 use Rattle.elements.proofs.Bounds.{within-le}
@@ -13,7 +13,7 @@ use Rattle.transform.proofs.sums.Statement.{statement}
 use Rattle.transform.proofs.sums.Tie as tie
 
 abbrev Inv-loop : tie.InvT-loop
-Inv-loop x r₀ n₀ r n = Filled (record { components = [] }) 4 (λ n. record { components = add (entry x n) (entry x (7 - n)) }) n r
+Inv-loop x r₀ n₀ r n = Each (record { components = [] }) 4 (λ n e. e .components ≡ add (entry x n) (entry x (7 - n))) n r
 
 abbrev μ-loop : tie.MeasureT-loop
 μ-loop x r₀ n₀ r n = 4 - n
@@ -22,7 +22,7 @@ array-copy-out-r : tie.Need-array-copy-out-r Inv-loop μ-loop
 array-copy-out-r c = search needs
 
 loop-holds : tie.Need-loop-holds Inv-loop μ-loop
-loop-holds c = filled-none refl
+loop-holds c = each-none refl
 
 mul-add : tie.Need-mul-add Inv-loop μ-loop
 mul-add c = omega arith
@@ -58,10 +58,10 @@ loop-less : tie.Need-loop-less Inv-loop μ-loop
 loop-less c = omega arith
 
 loop-again : tie.Need-loop-again Inv-loop μ-loop
-loop-again c = filled-more (omega arith) (c .before .before .before .before .loop .inv) (ap (λ l. record { components = l }) (c .add .ensures))
+loop-again c = each-more (omega arith) (c .before .before .before .before .loop .inv) (c .add .ensures)
 
 returns : tie.Need-returns Inv-loop μ-loop
-returns c = record { at = λ n h. ap (λ e. e .components) (c .before .loop .inv .done n (omega arith)) }
+returns c = record { at = λ n h. c .before .loop .inv .done n (omega arith) }
 
 pub sums-spec : {M : Type 1} → statement M
 sums-spec =

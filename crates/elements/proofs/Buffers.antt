@@ -1,0 +1,58 @@
+-- Storing an element in a buffer, as a loop over its components does it.
+-- Assumes nothing.
+use mathlib.Core.Path.{_≡_, refl, sym, ap, _∙_}
+use mathlib.Core.Bool.{cond}
+use mathlib.Core.List.{List}
+use Prim.Native.Nat.{ℕ, _+_, _*_, _/_, _%_, _≤_, _<_, zero-le}
+use native.Mathlib.Nat.{not-suc-le-zero}
+use native.Mathlib.Decide.{ℕ-discrete}
+use native.Mathlib.Omega.{arith}
+use lib.Dec.{eqb}
+use lib.IntN.{ℤ, pos}
+use lib.ListN.{length, getD, set, length-set}
+use lib.Seq.{getD-set-same, getD-set-other}
+use borrow.Author.Tests.{eq-eqb, ne-eqb}
+use Rattle.integers.proofs.Tables.{is-table, getD-table}
+use Rattle.ring.specs.Element.{component}
+use Rattle.elements.specs.Buffer.{put}
+
+-- the first k components of u are stored as those of element p of l, which was l₀
+pub record Stored (l₀ : List ℤ) (p : ℕ) (u : List ℤ) (k : ℕ) (l : List ℤ) : Type 0 where
+  pub size : length l ≡ length l₀
+  pub room : k ≤ 8
+  pub done : (j : ℕ) → j < k → getD l (8 * p + j) (pos 0) ≡ component u j
+  pub others : (i : ℕ) → (i / 8 ≡ p → ⊥) → getD l i (pos 0) ≡ getD l₀ i (pos 0)
+
+pub stored-none : {l₀ : List ℤ} {p : ℕ} {u : List ℤ} → Stored l₀ p u 0 l₀
+stored-none = record { size = refl; room = zero-le; done = λ j h. absurd (not-suc-le-zero h); others = λ i d. refl }
+
+pub stored-more : {l₀ : List ℤ} {p : ℕ} {u : List ℤ} {k : ℕ} {l : List ℤ} {v : ℤ} → 8 * p + 8 ≤ length l₀ → k < 8 → Stored l₀ p u k l → v ≡ component u k
+    → Stored l₀ p u (k + 1) (set l (8 * p + k) v)
+stored-more {l₀} {p} {u} {k} {l} {v} fit h S e = record {
+  size = length-set l (8 * p + k) v ∙ S .size;
+  room = omega arith;
+  done = λ j b. go j b (ℕ-discrete j k);
+  others = λ i d. getD-set-other l (8 * p + k) i v (pos 0) (λ q. d (let r : i ≡ 8 * p + k = q in omega arith)) ∙ S .others i d;
+}
+  where
+    inside : 8 * p + k < length l
+    inside = rw (S .size) (omega arith)
+
+    go : (j : ℕ) → j < k + 1 → Dec (j ≡ k) → getD (set l (8 * p + k) v) (8 * p + j) (pos 0) ≡ component u j
+    go j b (yes q) = rw q (getD-set-same l (8 * p + k) v (pos 0) inside ∙ e)
+    go j b (no q) = getD-set-other l (8 * p + k) (8 * p + j) v (pos 0) (λ r. q (omega arith)) ∙ S .done j (omega arith)
+
+-- what `put` has at an index
+pub getD-put : (l : List ℤ) (p : ℕ) (u : List ℤ) (i : ℕ) → i < length l → getD (put l p u) i (pos 0) ≡ cond (eqb (i / 8) p) (component u (i % 8)) (getD l i (pos 0))
+unfolding put
+getD-put l p u i h = getD-table (length l) (λ i. cond (eqb (i / 8) p) (component u (i % 8)) (getD l i (pos 0))) (pos 0) i h
+
+pub stored-all : {l₀ : List ℤ} {p : ℕ} {u : List ℤ} {k : ℕ} {l : List ℤ} → 8 ≤ k → Stored l₀ p u k l → l ≡ put l₀ p u
+unfolding put
+stored-all {l₀} {p} {u} {k} {l} h S = is-table (pos 0) l (length l₀) _ (S .size) (λ i b. go i (ℕ-discrete (i / 8) p))
+  where
+    go : (i : ℕ) → Dec (i / 8 ≡ p) → getD l i (pos 0) ≡ cond (eqb (i / 8) p) (component u (i % 8)) (getD l₀ i (pos 0))
+    go i (yes q) =
+        let split : i ≡ 8 * p + i % 8 = omega arith in
+        rw (eq-eqb (i / 8) p q) (ap (λ (n : ℕ). getD l n (pos 0)) split ∙ S .done (i % 8) (omega arith))
+    go i (no q) = rw (ne-eqb (i / 8) p q) (S .others i q)

@@ -1,0 +1,75 @@
+-- `first_outside` meets its contract: the loop passes every sample that is in range.
+-- Assumes nothing.
+use mathlib.Core.Path.{_≡_, sym, ap, _∙_}
+use mathlib.Core.Bool.{not}
+use Prim.Native.Nat.{_-_}
+use native.Mathlib.Omega.{arith}
+use mir.Syntax.{w32}
+use mir.Val.{ofZ, toZ}
+use mir.Facts.{toZ-ofZ}
+use borrow.Author.Needs.{needs}
+use Rattle.integers.proofs.Search.{Passed, passed-none, passed-more, first-at, first-none}
+use Rattle.dct.specs.Limits.{samples-size, in-range}
+use Rattle.transform.specs.Forward.{sample}
+use Rattle.transform.proofs.first_outside.Statement.{statement}
+use Rattle.transform.proofs.first_outside.Tie as tie
+
+abbrev Inv-loop : tie.InvT-loop
+Inv-loop samples i₀ i = Passed samples-size (λ i. not (in-range (sample samples i))) i
+
+abbrev μ-loop : tie.MeasureT-loop
+μ-loop samples i₀ i = 64 - i
+
+loop-holds : tie.Need-loop-holds Inv-loop μ-loop
+loop-holds c = passed-none
+
+mul-outside : tie.Need-mul-outside Inv-loop μ-loop
+mul-outside c = omega arith
+
+shared-slice-copy-out-outside : tie.Need-shared-slice-copy-out-outside Inv-loop μ-loop
+shared-slice-copy-out-outside c = omega arith
+
+outside-requires : tie.Need-outside-requires Inv-loop μ-loop
+outside-requires c κs = tt
+
+returns : tie.Need-returns Inv-loop μ-loop
+returns c =
+    let x = sample (c .before .before .before .before .before .args .samples .now) (c .before .before .before .before .loop .i) in
+    let read : toZ w32 (ofZ w32 x) ≡ x = toZ-ofZ (search needs) in
+    sym (first-at samples-size _ _ (omega arith) (c .before .before .before .before .loop .inv)
+    (ap (λ z. not (in-range z)) (sym read) ∙ sym (c .before .outside .ensures) ∙ c .if1 .taken))
+
+add-i : tie.Need-add-i Inv-loop μ-loop
+add-i c = omega arith
+
+loop-less : tie.Need-loop-less Inv-loop μ-loop
+loop-less c = omega arith
+
+loop-again : tie.Need-loop-again Inv-loop μ-loop
+loop-again c =
+    let x = sample (c .before .before .before .before .before .args .samples .now) (c .before .before .before .before .loop .i) in
+    let read : toZ w32 (ofZ w32 x) ≡ x = toZ-ofZ (search needs) in
+    passed-more (omega arith) (c .before .before .before .before .loop .inv)
+    (ap (λ z. not (in-range z)) (sym read) ∙ sym (c .before .outside .ensures) ∙ c .if1 .left)
+
+returns-2 : tie.Need-returns-2 Inv-loop μ-loop
+returns-2 c =
+    let i = c .before .loop .i in
+    let all : i ≡ 64 = omega arith in
+    sym (first-none samples-size _ (rw all at (c .before .loop .inv)))
+
+pub first-outside-spec : {M : Type 1} → statement M
+first-outside-spec =
+    tie.close
+    (tie.spec
+    Inv-loop
+    μ-loop
+    loop-holds
+    mul-outside
+    shared-slice-copy-out-outside
+    outside-requires
+    returns
+    add-i
+    loop-less
+    loop-again
+    returns-2)

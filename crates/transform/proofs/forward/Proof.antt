@@ -1,0 +1,71 @@
+-- `forward` meets its contract: each way out is a law, and the accepted call leaves what the steps over columns and then rows make.
+-- Assumes nothing.
+use mathlib.Core.Path.{_∙_}
+use native.Mathlib.Omega.{arith}
+use borrow.Author.Needs.{needs}
+use Rattle.transform.proofs.Blocks.{room-columns, room-rows, turned, stored-elements}
+use Rattle.transform.proofs.Refusals.{wrong-samples, wrong-elements, faulty-sample, no-fault, all-in-range}
+use Rattle.transform.proofs.forward.Statement.{statement}
+use Rattle.transform.proofs.forward.Tie as tie
+
+returns : tie.Need-returns
+returns c = wrong-samples _ _ (c .if1 .taken)
+
+returns-2 : tie.Need-returns-2
+returns-2 c = wrong-elements _ _ (c .before .if1 .left) (c .if2 .taken)
+
+first-outside-requires : tie.Need-first-outside-requires
+first-outside-requires c κs = search needs
+
+returns-3 : tie.Need-returns-3
+returns-3 c = faulty-sample _ _ (c .before .before .before .if1 .left) (c .before .before .if2 .left) _ (c .before .first-outside .ensures) (c .if3 .taken)
+
+columns-requires : tie.Need-columns-requires
+columns-requires c κs = search needs
+
+steps-requires : tie.Need-steps-requires
+steps-requires c κs =
+    let start = c .before .before .before .before .before in
+    let range = all-in-range (start .args .samples .now) (start .args .elements .now) (c .before .before .before .before .if1 .left) (c .before .before .before .if2 .left) _ (c .before .before .first-outside .ensures) (omega arith) in
+    room-columns range (c .columns .ensures)
+
+transposed-requires : tie.Need-transposed-requires
+transposed-requires c κs = search needs
+
+steps-requires-2 : tie.Need-steps-requires-2
+steps-requires-2 c κs =
+    let start = c .before .before .before .before .before .before .before in
+    let x = start .args .samples .now in
+    let range = all-in-range x (start .args .elements .now) (c .before .before .before .before .before .before .if1 .left) (c .before .before .before .before .before .if2 .left) _ (c .before .before .before .before .first-outside .ensures) (omega arith) in
+    room-rows range (turned x (c .before .before .columns .ensures) (c .before .steps .ensures) (c .transposed .ensures))
+
+store-requires : tie.Need-store-requires
+store-requires c κs = search needs
+
+same-length : tie.Need-same-length
+same-length c = search needs
+
+returns-4 : tie.Need-returns-4
+returns-4 c =
+    let start = c .before .before .before .before .before .before .before .before .before .before .before in
+    let x = start .args .samples .now in
+    let (answer, left) = no-fault x (start .args .elements .now) (c .before .before .before .before .before .before .before .before .before .before .if1 .left) (c .before .before .before .before .before .before .before .before .before .if2 .left) _ (c .before .before .before .before .before .before .before .before .first-outside .ensures) (omega arith) in (
+      answer,
+      c .before .store .ensures ∙ stored-elements x (c .before .before .before .before .before .before .columns .ensures) (c .before .before .before .before .before .steps .ensures) (c .before .before .before .before .transposed .ensures) (c .before .before .before .steps2 .ensures) ∙ left,
+    )
+
+pub forward-spec : {M : Type 1} → statement M
+forward-spec =
+    tie.close
+    (tie.spec
+    returns
+    returns-2
+    first-outside-requires
+    returns-3
+    columns-requires
+    steps-requires
+    transposed-requires
+    steps-requires-2
+    store-requires
+    same-length
+    returns-4)
