@@ -23,12 +23,12 @@ use Rattle.cuts.proofs.Within.{rising, falling, sizes, double, within-a
 
 -- ---- the magnitudes of u_1 to u_7
 
-sum-first : (n : ℕ) (f : ℕ → ℕ) → sum 0 _+_ (suc n) f ≡ f 0 + sum 0 _+_ n (λ k. f (suc k))
+pub sum-first : (n : ℕ) (f : ℕ → ℕ) → sum 0 _+_ (suc n) f ≡ f 0 + sum 0 _+_ n (λ k. f (suc k))
 unfolding sum
 sum-first zero f = omega arith
 sum-first (suc n) f = omega (arith, sum-first n f)
 
-components-le : (n : ℕ) (u : List ℤ) → sum 0 _+_ n (λ k. natAbs (component u k)) ≤ magnitudes u
+pub components-le : (n : ℕ) (u : List ℤ) → sum 0 _+_ n (λ k. natAbs (component u k)) ≤ magnitudes u
 unfolding sum
 components-le zero u = omega arith
 components-le (suc n) [] = omega (arith, components-le n [])

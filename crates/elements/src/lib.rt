@@ -98,6 +98,20 @@ pub fn times(a: Element, k: usize) -> Element
     Element { components: r }
 }
 
+// Element p of a buffer.
+pub fn element_at(buffer: &[i32], p: usize) -> Element
+    requires { ⌜ 8 * p + 8 ≤ length (now buffer) ⌝ }
+    ensures { λ r. ⌜ r .components ≡ buffers.element-at (now (buffer .entry)) p ⌝ }
+{
+    let mut r = [0i32; 8];
+    let mut k = 0;
+    while k < 8 {
+        r[k] = buffer[8 * p + k];
+        k += 1;
+    }
+    Element { components: r }
+}
+
 // Stores a as element p of a buffer.
 pub fn put(buffer: &mut [i32], p: usize, a: Element)
     requires { ⌜ 8 * p + 8 ≤ length (now buffer) ⌝ }

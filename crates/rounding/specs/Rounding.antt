@@ -1,14 +1,15 @@
 -- What the rounding job returns and leaves (01, "Rounding at a width" and "Why a set or sheet is turned back"): for any buffers and any b.
 use mathlib.Core.Bool.{_&&_}
 use mathlib.Core.List.{List}
-use Prim.Native.Nat.{ℕ}
+use Prim.Native.Nat.{ℕ, _<_}
 use lib.Dec.{ltb, eqb}
-use lib.IntN.{ℤ}
-use lib.ListN.{length}
+use lib.IntN.{ℤ, pos}
+use lib.ListN.{length, getD}
 use Rattle.integers.specs.Table.{table}
 use Rattle.ring.specs.Element.{magnitudes}
-use Rattle.dct.specs.Limits.{samples-size, components-size, magnitudes-limit}
-use Rattle.cuts.specs.Width.{coefficient}
+use Rattle.dct.specs.Limits.{samples-size, components-size, magnitudes-limit, error-limit}
+use Rattle.cuts.specs.Value.{Near}
+use Rattle.cuts.specs.Width.{coefficient, distance}
 use Rattle.elements.specs.Buffer.{element-at}
 use Rattle.answers.specs.Answer.{Returned, unless, lowest, accept, written}
 use Rattle.rounding.specs.Tables.{width, numbers}
@@ -24,3 +25,7 @@ round-returned elements b coefficients =
 unfoldable pub round-coefficients : List ℤ → ℕ → List ℤ → List ℤ
 round-coefficients elements b coefficients =
     written (round-returned elements b coefficients) (table samples-size (λ p. coefficient b (numbers b) (element-at elements p))) coefficients
+
+-- each of the 64 coefficients lies within 1/2 + 65,536/2^b of half of its element's value
+pub record AllNear (elements : List ℤ) (b : ℕ) (coefficients : List ℤ) : Type 0 where
+  pub near : (p : ℕ) → p < samples-size → Near (getD coefficients p (pos 0)) (element-at elements p) (distance error-limit b)

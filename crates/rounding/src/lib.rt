@@ -1,1 +1,191 @@
-// The rounding job: 64 exact elements to 64 coefficients in eighths, at a width b.
+// Rounding at a width (01, "Rounding at a width"): 64 elements become 64 coefficients in eighths.
+//
+// `round` takes any buffers and any b. An accepted call leaves the formula's 64 numbers, each within 1/2 + 65,536/2^b of half of its
+// element's value; a refused one leaves the buffer as it was, and names the first cause.
+//
+// 64 bits suffice: a table number is below 2^(b+1), as c_k is below 2, so that N is at most 2^(b+1) times the sum of the element's
+// magnitudes. That sum is at most 2^18, and b at most 26: no sum or product here is above 2^46. In 32 bits the products would wrap at b = 20.
+ghost use mathlib.Core.Path.{_≡_};
+ghost use Prim.Native.Nat.{_^_, _<_};
+ghost use lib.Dec.{T, ltb};
+ghost use lib.IntN.{pos, _+ℤ_, _*ℤ_};
+ghost use lib.ListN.{length};
+ghost use mir.Syntax.{w64};
+ghost use mir.Val.{SFits};
+ghost use Rattle.integers.specs.Search.{first};
+ghost use Rattle.integers.specs.Table.{table};
+ghost use Rattle.ring.specs.Element as ring;
+ghost use Rattle.dct.specs.Limits.{samples-size, components-size, magnitudes-limit};
+ghost use Rattle.cuts.specs.Width as width;
+ghost use Rattle.elements.specs.Buffer.{element-at};
+ghost use Rattle.answers.specs.Answer.{returned, accepted};
+ghost use Rattle.rounding.specs.Asked.{Allowed, Ready};
+ghost use Rattle.rounding.specs.Rounding.{AllNear, round-returned, round-coefficients};
+ghost use Rattle.rounding.specs.Tables as tables;
+use answers::Answer;
+use elements::Element;
+use elements::element_at;
+use integers::magnitude;
+
+// The elements of a set, and its coefficients.
+const SAMPLES: usize = 64;
+
+// The components of all its elements.
+const COMPONENTS: usize = 512;
+
+// The largest sum of an element's magnitudes.
+const MAGNITUDES_LIMIT: u64 = 262144;
+
+// The table numbers m_1 to m_7 at each width.
+const NUMBERS_11: [i64; 7] = [4017, 3784, 3406, 2896, 2276, 1567, 799];
+
+const NUMBERS_20: [i64; 7] = [2056856, 1937516, 1743718, 1482910, 1165115, 802545, 409134];
+
+const NUMBERS_26: [i64; 7] = [
+    131638772,
+    124001012,
+    111597962,
+    94906266,
+    74567374,
+    51362901,
+    26184580,
+];
+
+// The table numbers at the width b.
+fn numbers_at(b: u32) -> [i64; 7]
+    requires { ⌜ T (tables.width b) ⌝ }
+    ensures { λ r. ⌜ r ≡ tables.numbers b ⌝ }
+{
+    if b == 11 {
+        return NUMBERS_11;
+    }
+    if b == 20 {
+        return NUMBERS_20;
+    }
+    NUMBERS_26
+}
+
+// b is one of the widths.
+fn is_width(b: u32) -> bool
+    ensures { λ r. ⌜ r ≡ tables.width b ⌝ }
+{
+    if b == 11 {
+        return true;
+    }
+    if b == 20 {
+        return true;
+    }
+    b == 26
+}
+
+// The sum of the magnitudes of an element's components.
+fn magnitudes(u: Element) -> u64
+    ensures { λ r. ⌜ r ≡ ring.magnitudes (u .components) ⌝ }
+{
+    let a = u.components;
+    let mut s: u64 = 0;
+    let mut k = 0;
+    while k < 8 {
+        s += magnitude(a[k]);
+        k += 1;
+    }
+    s
+}
+
+// 2^b
+fn power_of_two(b: u32) -> i64
+    requires { ⌜ b < 63 ⌝ }
+    ensures { λ r. ⌜ r ≡ pos (2 ^ b) ⌝ }
+{
+    1i64 << b
+}
+
+// s + x·y, where it fits.
+fn plus_product(s: i64, x: i64, y: i32) -> i64
+    requires { ⌜ SFits w64 (x *ℤ y) ⌝ }
+    requires { ⌜ SFits w64 (s +ℤ x *ℤ y) ⌝ }
+    ensures { λ r. ⌜ r ≡ s +ℤ x *ℤ y ⌝ }
+{
+    let wide = y as i64;
+    s + x * wide
+}
+
+// N = 2^b·u_0 + m_1·u_1 + ... + m_7·u_7, for the table numbers at b.
+fn numerator(u: Element, b: u32, numbers: [i64; 7]) -> i64
+    requires { ⌜ Allowed b numbers (u .components) ⌝ }
+    ensures { λ r. ⌜ r ≡ width.numerator b numbers (u .components) ⌝ }
+{
+    let a = u.components;
+    let mut n = plus_product(0, power_of_two(b), a[0]);
+    let mut k = 0;
+    while k < 7 {
+        n = plus_product(n, numbers[k], a[k + 1]);
+        k += 1;
+    }
+    n
+}
+
+// (N + 2^b) divided by 2^(b+1), rounded down: `>>` on an i64 rounds down.
+fn coefficient(u: Element, b: u32, numbers: [i64; 7]) -> i32
+    requires { ⌜ Allowed b numbers (u .components) ⌝ }
+    ensures { λ r. ⌜ r ≡ width.coefficient b numbers (u .components) ⌝ }
+{
+    let n = numerator(u, b, numbers);
+    let half = power_of_two(b);
+    let y = (n + half) >> (b + 1);
+    y as i32
+}
+
+// The number of the first element whose magnitudes sum above the limit, or 64 where there is none.
+fn first_above_limit(elements: &[i32]) -> usize
+    requires { ⌜ length (now elements) ≡ components-size ⌝ }
+    ensures { λ r. ⌜ r ≡ first samples-size (λ p. ltb magnitudes-limit (ring.magnitudes (element-at (now (elements .entry)) p))) ⌝ }
+{
+    let mut p = 0;
+    while p < SAMPLES {
+        let sum = magnitudes(element_at(elements, p));
+        if MAGNITUDES_LIMIT < sum {
+            return p;
+        }
+        p += 1;
+    }
+    p
+}
+
+// Every coefficient, of elements that are all within the limit.
+fn fill(elements: &[i32], b: u32, coefficients: &mut [i32])
+    requires { ⌜ Ready (now elements) b (now coefficients) ⌝ }
+    ensures { λ r. ⌜ now (coefficients .exit) ≡ table samples-size (λ p. width.coefficient b (tables.numbers b) (element-at (now (elements .entry)) p)) ⌝ }
+{
+    let numbers = numbers_at(b);
+    let mut i = 0;
+    while i < SAMPLES {
+        let u = element_at(elements, i);
+        let y = coefficient(u, b, numbers);
+        coefficients[i] = y;
+        i += 1;
+    }
+}
+
+// The coefficients of 64 elements at the width b, or why they are refused.
+pub fn round(elements: &[i32], b: u32, coefficients: &mut [i32]) -> Answer
+    ensures { λ r. ⌜ returned r ≡ round-returned (now (elements .entry)) b (now (coefficients .entry)) ⌝ }
+    ensures { λ r. ⌜ now (coefficients .exit) ≡ round-coefficients (now (elements .entry)) b (now (coefficients .entry)) ⌝ }
+    ensures { λ r. ⌜ (T (accepted (returned r)) → AllNear (now (elements .entry)) b (now (coefficients .exit))) ⌝ }
+{
+    if elements.len() != COMPONENTS {
+        return Answer::Lengths;
+    }
+    if coefficients.len() != SAMPLES {
+        return Answer::Lengths;
+    }
+    if !is_width(b) {
+        return Answer::Width;
+    }
+    let p = first_above_limit(elements);
+    if p < SAMPLES {
+        return Answer::Magnitudes(p);
+    }
+    fill(elements, b, coefficients);
+    Answer::Accepted
+}

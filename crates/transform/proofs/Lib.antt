@@ -4,3 +4,4 @@ pub mod Grids
 pub mod Range
 pub mod Blocks
 pub mod Refusals
+pub mod Meaning

@@ -1,0 +1,76 @@
+-- `element_at` meets its contract: the loop copies the components one by one.
+-- Assumes nothing.
+use mathlib.Core.Path.{_≡_, refl}
+use Prim.Native.Nat.{_+_, _-_, _*_}
+use native.Mathlib.Omega.{arith}
+use lib.IntN.{pos}
+use lib.ListN.{getD}
+use mir.Syntax.{w32}
+use mir.Val.{ofZ, toZ}
+use mir.Facts.{toZ-ofZ}
+use Rattle.integers.proofs.Tables.{Filled, filled-none, filled-more, filled-all}
+use Rattle.elements.specs.Buffer.{element-at}
+use Rattle.elements.proofs.element_at.Statement.{statement}
+use Rattle.elements.proofs.element_at.Tie as tie
+
+abbrev Inv-loop : tie.InvT-loop
+Inv-loop buffer p r₀ k₀ r k = Filled (pos 0) 8 (λ k. getD buffer (8 * p + k) (pos 0)) k r
+
+abbrev μ-loop : tie.MeasureT-loop
+μ-loop buffer p r₀ k₀ r k = 8 - k
+
+loop-holds : tie.Need-loop-holds Inv-loop μ-loop
+loop-holds c = filled-none refl
+
+mul-r : tie.Need-mul-r Inv-loop μ-loop
+mul-r c = omega arith
+
+add-r : tie.Need-add-r Inv-loop μ-loop
+add-r c = omega arith
+
+mul-r-2 : tie.Need-mul-r-2 Inv-loop μ-loop
+mul-r-2 c = omega arith
+
+shared-slice-copy-out-r : tie.Need-shared-slice-copy-out-r Inv-loop μ-loop
+shared-slice-copy-out-r c = omega arith
+
+mul-r-3 : tie.Need-mul-r-3 Inv-loop μ-loop
+mul-r-3 c = omega arith
+
+array-set-from-r : tie.Need-array-set-from-r Inv-loop μ-loop
+array-set-from-r c = omega arith
+
+add-k : tie.Need-add-k Inv-loop μ-loop
+add-k c = omega arith
+
+loop-less : tie.Need-loop-less Inv-loop μ-loop
+loop-less c = omega arith
+
+loop-again : tie.Need-loop-again Inv-loop μ-loop
+loop-again c =
+    let start = c .before .before .before in
+    let x = getD (start .args .buffer .now) (8 * start .args .p + c .before .before .loop .k) (pos 0) in
+    let read : toZ w32 (ofZ w32 x) ≡ x = toZ-ofZ (record { sfits = c .r .given }) in
+    filled-more (omega arith) (c .before .before .loop .inv) read
+
+returns : tie.Need-returns Inv-loop μ-loop
+unfolding element-at
+returns c = filled-all (omega arith) (c .before .loop .inv)
+
+pub element-at-spec : {M : Type 1} → statement M
+element-at-spec =
+    tie.close
+    (tie.spec
+    Inv-loop
+    μ-loop
+    loop-holds
+    mul-r
+    add-r
+    mul-r-2
+    shared-slice-copy-out-r
+    mul-r-3
+    array-set-from-r
+    add-k
+    loop-less
+    loop-again
+    returns)

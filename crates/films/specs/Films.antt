@@ -1,0 +1,97 @@
+-- The starred films (01, "Films to try"): what the definitions give, and what 01 says.
+use mathlib.Core.Bool.{Bool, true, cond}
+use mathlib.Core.List.{List, [], _∷_}
+use Prim.Native.Nat.{ℕ, _+_, _*_}
+use lib.Dec.{eqb, lit<}
+use lib.IntN.{ℤ, pos, negsuc}
+use Rattle.integers.specs.Table.{table}
+use Rattle.ring.specs.Element.{add, subtract, number, only, cosine, mul}
+use Rattle.dct.specs.Limits.{dimensions, samples-size, components-size}
+use Rattle.dct.specs.Transform.{element}
+use Rattle.cuts.specs.Fraction.{Fraction}
+use Rattle.cuts.specs.Root.{root, below, above}
+use Rattle.cuts.specs.Width.{numerator, coefficient}
+use Rattle.transform.specs.Forward.{sample, elements-of}
+use Rattle.rounding.specs.Tables.{numbers}
+
+pub record Film : Type 0 where
+  pub given : List ℤ
+  pub said : List ℤ
+
+-- c_k
+abbrev c : ℕ → List ℤ
+c k = cosine (pos k)
+
+-- a number and a truth value, as lists
+abbrev alone : ℤ → List ℤ
+alone z = z ∷ []
+
+abbrev truth : Bool → List ℤ
+truth b = alone (cond b (pos 1) (pos 0))
+
+abbrev thousandths : ℕ → Fraction
+thousandths n = record { upper = pos n; lower = 1000; positive = lit< tt }
+
+-- all samples z
+abbrev pub all : ℤ → List ℤ
+all z = table samples-size (λ i. z)
+
+-- sample (0,0) is 1, the others 0
+abbrev one : List ℤ
+one = table samples-size (λ i. cond (eqb i 0) (pos 1) (pos 0))
+
+-- u_0 at (0,0) is z, all else 0
+abbrev pub first : ℤ → List ℤ
+first z = table components-size (λ i. cond (eqb i 0) z (pos 0))
+
+-- the exact element of a block at (u,v)
+abbrev at : List ℤ → ℕ → ℕ → List ℤ
+at x u v = element dimensions (sample x) (8 * u + v)
+
+-- its coefficient at width b
+abbrev rounded : ℕ → List ℤ → List ℤ
+rounded b u = alone (coefficient b (numbers b) u)
+
+-- what the definitions give for a film, and what 01 says
+infix 10 _is_
+abbrev _is_ : List ℤ → List ℤ → Film
+given is said = record { given = given; said = said }
+
+unfoldable pub films : List Film
+films =
+    -- c_4×c_4 = 2; c_7×c_7 = 2-c_2; c_3×c_5 = c_2; c_6×c_7 = c_1-c_3
+    (mul (c 4) (c 4) is number (pos 2))
+    ∷ (mul (c 7) (c 7) is subtract (number (pos 2)) (c 2))
+    ∷ (mul (c 3) (c 5) is c 2)
+    ∷ (mul (c 6) (c 7) is subtract (c 1) (c 3))
+    -- 1414/1000 lies below c_4, 1415/1000 above
+    ∷ (truth (below (root 4) (thousandths 1414)) is truth true)
+    ∷ (truth (above (root 4) (thousandths 1415)) is truth true)
+    -- all samples 1: u_0 at (0,0) is 128, all else 0, coefficient 64
+    ∷ (elements-of (all (pos 1)) is first (pos 128))
+    ∷ (rounded 11 (number (pos 128)) is alone (pos 64))
+    ∷ (rounded 20 (number (pos 128)) is alone (pos 64))
+    ∷ (rounded 26 (number (pos 128)) is alone (pos 64))
+    -- all -2048: u_0 is -262,144, coefficient -131,072; all 2047: 262,016 and 131,008
+    ∷ (elements-of (all (negsuc 2047)) is first (negsuc 262143))
+    ∷ (elements-of (all (pos 2047)) is first (pos 262016))
+    ∷ (rounded 11 (number (negsuc 262143)) is alone (negsuc 131071))
+    ∷ (rounded 20 (number (negsuc 262143)) is alone (negsuc 131071))
+    ∷ (rounded 26 (number (negsuc 262143)) is alone (negsuc 131071))
+    ∷ (rounded 11 (number (pos 262016)) is alone (pos 131008))
+    ∷ (rounded 20 (number (pos 262016)) is alone (pos 131008))
+    ∷ (rounded 26 (number (pos 262016)) is alone (pos 131008))
+    -- sample (0,0) = 1, others 0: (0,0) is 2; (0,1) is c_3+c_5; (1,1) is 2+c_2; (1,7) is c_6
+    ∷ (at one 0 0 is number (pos 2))
+    ∷ (at one 0 1 is add (c 3) (c 5))
+    ∷ (at one 1 1 is add (number (pos 2)) (c 2))
+    ∷ (at one 1 7 is c 6)
+    -- at b = 11 the coefficients at (0,1), (1,1), (7,7) are 1, 2, 0
+    ∷ (rounded 11 (at one 0 1) is alone (pos 1))
+    ∷ (rounded 11 (at one 1 1) is alone (pos 2))
+    ∷ (rounded 11 (at one 7 7) is alone (pos 0))
+    -- an element of u_2 = 256 alone, b = 11: N = 968,704, coefficient 237; with -256: -236
+    ∷ (alone (numerator 11 (numbers 11) (only (pos 256) 2)) is alone (pos 968704))
+    ∷ (rounded 11 (only (pos 256) 2) is alone (pos 237))
+    ∷ (rounded 11 (only (negsuc 255) 2) is alone (negsuc 235))
+    ∷ []

@@ -1,0 +1,101 @@
+-- The causes of a refusal, in order: one law for each way out of `round`.
+-- Assumes nothing.
+use mathlib.Core.Path.{_≡_, refl, sym, _∙_}
+use mathlib.Core.Bool.{Bool, true, false, not}
+use mathlib.Core.List.{List}
+use Prim.Native.Nat.{ℕ, _≤_, _<_}
+use native.Mathlib.Nat.{lt-of-lt-of-le}
+use lib.Dec.{T, ltb, eqb}
+use lib.IntN.{ℤ, pos}
+use lib.ListN.{length}
+use borrow.Author.Tests.{lt-ltb, le-ltb, ltb-false, eq-eqb, ne-eqb, not-true, not-false}
+use Rattle.integers.specs.Search.{first}
+use Rattle.integers.specs.Table.{table}
+use Rattle.integers.proofs.Search.{before-first}
+use Rattle.integers.proofs.Tables.{getD-table}
+use Rattle.ring.specs.Element.{magnitudes}
+use Rattle.dct.specs.Limits.{samples-size, components-size, magnitudes-limit, error-limit}
+use Rattle.cuts.specs.Width.{coefficient}
+use Rattle.cuts.proofs.Error.{near}
+use Rattle.elements.specs.Buffer.{element-at}
+use Rattle.answers.specs.Answer.{Returned, lowest, accept, accepted}
+use Rattle.rounding.specs.Asked.{Ready}
+use Rattle.rounding.specs.Rounding.{AllNear, round-returned, round-coefficients}
+use Rattle.rounding.specs.Tables.{width, numbers}
+use Rattle.rounding.proofs.Tables.{tables}
+
+-- cause 4 at the element of number p
+abbrev pub above : List ℤ → ℕ → Bool
+above elements p = ltb magnitudes-limit (magnitudes (element-at elements p))
+
+-- r is the sum that the code finds
+module _ (elements : List ℤ) (p : ℕ) {r : ℕ} (e : r ≡ magnitudes (element-at elements p)) where
+  pub above-yes : magnitudes-limit < r → above elements p ≡ true
+  above-yes h = rw (← e) (lt-ltb magnitudes-limit r h)
+
+  pub above-no : r ≤ magnitudes-limit → above elements p ≡ false
+  above-no h = rw (← e) (le-ltb magnitudes-limit r h)
+
+module _ (elements : List ℤ) (b : ℕ) (coefficients : List ℤ) where
+  -- the 64 numbers of the formula
+  abbrev formula : List ℤ
+  formula = table samples-size (λ p. coefficient b (numbers b) (element-at elements p))
+
+  -- what `round` promises of the answer r and of the coefficients that it leaves
+  abbrev Promised : Returned → List ℤ → Type 0
+  Promised r left =
+      (r ≡ round-returned elements b coefficients) × ((left ≡ round-coefficients elements b coefficients) × (T (accepted r) → AllNear elements b left))
+
+  -- a refusal leaves the buffer as it was
+  refused : (n i : ℕ) → eqb n 0 ≡ false → round-returned elements b coefficients ≡ record { number = n; place = i }
+      → Promised (record { number = n; place = i }) coefficients
+  unfolding round-coefficients
+  refused n i t e = (sym e, (rw (e, t), λ h. absurd (rw t at h)))
+
+  pub refused-elements : (length elements ≡ components-size → ⊥) → Promised (record { number = 1; place = 0 }) coefficients
+  unfolding round-returned
+  refused-elements h = refused 1 0 refl (rw (ne-eqb (length elements) components-size h))
+
+  pub refused-coefficients : length elements ≡ components-size → (length coefficients ≡ samples-size → ⊥)
+      → Promised (record { number = 1; place = 0 }) coefficients
+  unfolding round-returned
+  refused-coefficients l h = refused 1 0 refl (rw (eq-eqb (length elements) components-size l, ne-eqb (length coefficients) samples-size h))
+
+  -- with both lengths right, r is what `is_width` answers
+  module _ (l : length elements ≡ components-size) (k : length coefficients ≡ samples-size) {r : Bool} (e : r ≡ width b) where
+    pub refused-width : not r ≡ true → Promised (record { number = 3; place = 0 }) coefficients
+    unfolding round-returned
+    refused-width t =
+        refused 3 0 refl (rw (eq-eqb (length elements) components-size l, eq-eqb (length coefficients) samples-size k, ← e, not-true r t))
+
+    -- at a width, p is what the search answers
+    module _ (t : not r ≡ false) {p : ℕ} (f : p ≡ first samples-size (above elements)) where
+      past-width : round-returned elements b coefficients ≡ lowest samples-size (above elements) 4 accept
+      unfolding round-returned
+      past-width = rw (eq-eqb (length elements) components-size l, eq-eqb (length coefficients) samples-size k, ← e, not-false r t)
+
+      pub refused-magnitudes : p < samples-size → Promised (record { number = 4; place = p }) coefficients
+      refused-magnitudes h = refused 4 p refl (past-width ∙ rw (← f, lt-ltb p samples-size h))
+
+      -- and no element is above the limit
+      module _ (none : samples-size ≤ p) where
+        pub ready : Ready elements b coefficients
+        ready = record {
+          elements-length = l;
+          coefficients-length = k;
+          ready-width = rw (← e, not-false r t) tt;
+          ready-limit = λ i h. ltb-false magnitudes-limit _ (before-first samples-size (above elements) i (rw (← f) (lt-of-lt-of-le h none)));
+        }
+
+        all-near : AllNear elements b formula
+        all-near = record {
+          near = λ i h. rw (getD-table samples-size (λ p. coefficient b (numbers b) (element-at elements p)) (pos 0) i h)
+              (near b error-limit (numbers b) (element-at elements i) (tables b (ready .ready-width)) (ready .ready-limit i h));
+        }
+
+        answer : round-returned elements b coefficients ≡ accept
+        answer = past-width ∙ rw (← f, le-ltb p samples-size none)
+
+        pub accepted-call : {left : List ℤ} → left ≡ formula → Promised accept left
+        unfolding round-coefficients
+        accepted-call g = (sym answer, (rw answer g, λ h. rw g all-near))

@@ -1,0 +1,127 @@
+-- How large the sums and products of rounding get, and that the coefficient fits an i32.
+-- Assumes nothing.
+use mathlib.Core.Path.{_≡_, refl, sym}
+use mathlib.Core.List.{List, [], _∷_}
+use Prim.Native.Nat.{ℕ, zero, suc, _+_, _*_, _^_, _≤_, _<_}
+use native.Mathlib.Nat.{zero-add, le-refl, le-trans, lt-of-le-of-lt, mul-add, mul-le-mul, mul-le-mul-left, mul-le-mul-right, div-le-of-le-mul}
+use native.Mathlib.Omega.{arith}
+use lib.Dec.{lit<, lit≤}
+use lib.IntN.{ℤ, pos, negsuc, _+ℤ_, _*ℤ_, natAbs, +ℤ-assoc, +ℤ-idr}
+use lib.ListN.{length}
+use lib.Pow.{pow-mono}
+use lib.Signed.{mag, shrZ}
+use mir.Syntax.{w32}
+use mir.Val.{SFits}
+use Rattle.integers.specs.Sum.{sum}
+use Rattle.integers.proofs.Magnitudes.{natAbs-add, natAbs-mul}
+use Rattle.ring.specs.Element.{component, magnitudes}
+use Rattle.dct.specs.Limits.{magnitudes-limit}
+use Rattle.cuts.specs.Width.{numerator, coefficient}
+use Rattle.cuts.proofs.Error.{sum-first, components-le}
+use Rattle.rounding.specs.Asked.{Allowed}
+use Rattle.rounding.proofs.Tables.{number-small, width-small}
+
+-- ---- the magnitudes, summed from the front
+
+abbrev pub sizes : List ℤ → ℕ → ℕ
+sizes u n = sum 0 _+_ n (λ k. natAbs (component u k))
+
+pub sizes-all : (n : ℕ) (u : List ℤ) → length u ≡ n → sizes u n ≡ magnitudes u
+unfolding sum
+sizes-all zero [] e = refl
+sizes-all zero (x ∷ u) e = absurd (omega arith)
+sizes-all (suc n) [] e = absurd (omega arith)
+sizes-all (suc n) (x ∷ u) e = omega (arith, sum-first n (λ k. natAbs (component (x ∷ u) k)), sizes-all n u (omega arith))
+
+-- ---- the numerator, summed from the front
+
+-- 2^b·u_0 + m_1·u_1 + ... + m_n·u_n
+abbrev pub partial : ℕ → List ℤ → List ℤ → ℕ → ℤ
+partial b m u n = pos (2 ^ b) *ℤ component u 0 +ℤ sum (pos 0) _+ℤ_ n (λ k. component m k *ℤ component u (suc k))
+
+pub partial-none : (b : ℕ) (m u : List ℤ) → partial b m u 0 ≡ pos (2 ^ b) *ℤ component u 0
+unfolding sum
+partial-none b m u = +ℤ-idr (pos (2 ^ b) *ℤ component u 0)
+
+pub partial-more : (b : ℕ) (m u : List ℤ) (n : ℕ) → partial b m u (suc n) ≡ partial b m u n +ℤ component m n *ℤ component u (suc n)
+unfolding sum
+partial-more b m u n =
+    let terms : ℕ → ℤ = λ k. component m k *ℤ component u (suc k) in
+    sym (+ℤ-assoc (pos (2 ^ b) *ℤ component u 0) (sum (pos 0) _+ℤ_ n terms) (terms n))
+
+pub partial-all : (b : ℕ) (m u : List ℤ) → partial b m u 7 ≡ numerator b m u
+unfolding numerator
+partial-all b m u = refl
+
+-- ---- what the code knows of its operands
+
+pub record Bounded (b : ℕ) (m u : List ℤ) : Type 0 where
+  pub width-bound : b ≤ 26
+  pub number-bound : (k : ℕ) → k < 7 → natAbs (component m k) ≤ 2 ^ (b + 1)
+  pub magnitudes-bound : magnitudes u ≤ magnitudes-limit
+
+pub bounded : {b : ℕ} {m u : List ℤ} → Allowed b m u → Bounded b m u
+bounded {b} A =
+    record {
+      width-bound = width-small b (A .at-width);
+      number-bound = λ k h. rw (A .are-numbers) (number-small b (A .at-width) k h);
+      magnitudes-bound = A .in-limit;
+    }
+
+product-le : (x y : ℤ) {P : ℕ} → natAbs x ≤ P → natAbs (x *ℤ y) ≤ P * natAbs y
+product-le x y h = rw (natAbs-mul x y) (mul-le-mul-right (natAbs y) h)
+
+-- a number that is at most P·n in magnitude, divided by P
+mag-shr-le : (z : ℤ) (P : ℕ) {n : ℕ} → natAbs z ≤ P * n → mag (shrZ z P) ≤ n
+mag-shr-le (pos a) P h = div-le-of-le-mul P h
+mag-shr-le (negsuc a) P h = div-le-of-le-mul P (omega arith)
+
+module _ {b : ℕ} {m u : List ℤ} (B : Bounded b m u) where
+  power-le : 2 ^ (b + 1) ≤ 2 ^ 27
+  power-le = let h : b + 1 ≤ 27 = omega (arith, B .width-bound) in pow-mono h
+
+  -- 2^(b+1) times the magnitudes of the first n components, which no sum of n terms exceeds
+  sizes-le : (n : ℕ) → 2 ^ (b + 1) * sizes u n ≤ 2 ^ 45
+  sizes-le n = mul-le-mul power-le (le-trans (components-le n u) (B .magnitudes-bound))
+
+  term-le : (k : ℕ) → k < 7 → natAbs (component m k *ℤ component u (suc k)) ≤ 2 ^ (b + 1) * natAbs (component u (suc k))
+  term-le k h = product-le (component m k) (component u (suc k)) (B .number-bound k h)
+
+  partial-le : (n : ℕ) → n ≤ 7 → natAbs (partial b m u n) ≤ 2 ^ (b + 1) * sizes u (suc n)
+  unfolding sum
+  partial-le zero h = rw (partial-none b m u, zero-add) (product-le (pos (2 ^ b)) (component u 0) (pow-mono (omega arith)))
+  partial-le (suc n) h =
+      rw (partial-more b m u n, mul-add)
+      (omega (arith, natAbs-add (partial b m u n) (component m n *ℤ component u (suc n)), partial-le n (omega arith), term-le n (omega arith)))
+
+  pub partial-small : (n : ℕ) → n ≤ 7 → natAbs (partial b m u n) ≤ 2 ^ 45
+  partial-small n h = le-trans (partial-le n h) (sizes-le (suc n))
+
+  pub term-small : (k : ℕ) → k < 7 → natAbs (component m k *ℤ component u (suc k)) ≤ 2 ^ 45
+  unfolding sum
+  term-small k h = le-trans (term-le k h) (le-trans (mul-le-mul-left (2 ^ (b + 1)) (omega arith)) (sizes-le (suc (suc k))))
+
+  pub component-small : (k : ℕ) → natAbs (component u k) ≤ magnitudes-limit
+  unfolding sum
+  component-small k = omega (arith, components-le (suc k) u, B .magnitudes-bound)
+
+  pub number-less : (k : ℕ) → k < 7 → natAbs (component m k) ≤ 2 ^ 27
+  number-less k h = le-trans (B .number-bound k h) power-le
+
+  -- N + 2^b is at most 2^(b+1) times one more than the magnitudes
+  rounded-le : natAbs (numerator b m u +ℤ pos (2 ^ b)) ≤ 2 ^ (b + 1) * (magnitudes-limit + 1)
+  rounded-le =
+      let N = numerator b m u in
+      let n : natAbs N ≤ 2 ^ (b + 1) * sizes u 8 = rw (partial-all b m u) at (partial-le 7 (le-refl 7)) in
+      let s : 2 ^ (b + 1) * sizes u 8 ≤ 2 ^ (b + 1) * magnitudes-limit =
+      mul-le-mul-left (2 ^ (b + 1)) (le-trans (components-le 8 u) (B .magnitudes-bound)) in
+      let p : 2 ^ b ≤ 2 ^ (b + 1) = pow-mono (omega arith) in
+      omega (arith, natAbs-add N (pos (2 ^ b)))
+
+  pub rounded-small : natAbs (numerator b m u +ℤ pos (2 ^ b)) ≤ 2 ^ 46
+  rounded-small = le-trans rounded-le (mul-le-mul {m₂ = 2 ^ 19} power-le (lit≤ tt))
+
+  pub coefficient-fits : SFits w32 (coefficient b m u)
+  unfolding coefficient
+  coefficient-fits =
+      record { sfits = lt-of-le-of-lt (mag-shr-le (numerator b m u +ℤ pos (2 ^ b)) (2 ^ (b + 1)) rounded-le) (lit< tt) }

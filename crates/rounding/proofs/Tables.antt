@@ -1,0 +1,52 @@
+-- The table numbers of the three widths obey 01's rule, and their sizes: each one computed test.
+-- Assumes nothing.
+use mathlib.Core.Path.{_≡_, refl}
+use mathlib.Core.Logic.{⊎-elim}
+use mathlib.Core.Bool.{Bool, _||_}
+use Prim.Native.Nat.{ℕ, suc, _+_, _^_, _≤_, _<_}
+use lib.Dec.{T, leb, eqb, lit≤}
+use lib.IntN.{natAbs}
+use mir.Facts.{or-yes, eqb-yes, leb-yes}
+use Rattle.integers.proofs.Tests.{every, every-at}
+use Rattle.ring.specs.Element.{component}
+use Rattle.cuts.specs.Root.{root}
+use Rattle.cuts.specs.Width.{table-number, TableAt}
+use Rattle.rounding.specs.Tables.{width, numbers}
+
+-- what holds at the three widths holds at each width
+pub by-width : (P : ℕ → Type 0) → P 11 → P 20 → P 26 → (b : ℕ) → T (width b) → P b
+by-width P x y z b w =
+    ⊎-elim (λ t. rw (eqb-yes {a = b} {b = 11} t) x)
+    (λ s. ⊎-elim (λ t. rw (eqb-yes {a = b} {b = 20} t) y) (λ t. rw (eqb-yes {a = b} {b = 26} t) z) (or-yes (eqb b 20) (eqb b 26) s))
+    (or-yes (eqb b 11) (eqb b 20 || eqb b 26) w)
+
+-- the width that is left
+pub third : (b : ℕ) → T (width b) → (b ≡ 11 → ⊥) → (b ≡ 20 → ⊥) → b ≡ 26
+third = by-width (λ b. (b ≡ 11 → ⊥) → (b ≡ 20 → ⊥) → b ≡ 26) (λ p q. absurd (p refl)) (λ p q. absurd (q refl)) (λ p q. refl)
+
+-- m_(k+1) at b obeys the rule
+right : ℕ → ℕ → Bool
+right b k = table-number b (suc k) (component (numbers b) k)
+
+all-right : (b : ℕ) → T (width b) → T (every 7 (right b))
+unfolding right table-number numbers root
+all-right = by-width (λ b. T (every 7 (right b))) tt tt tt
+
+pub tables : (b : ℕ) → T (width b) → TableAt b (numbers b)
+unfolding right
+tables b w = record { numbers = λ k h. every-at 7 (right b) (all-right b w) k h }
+
+-- it is at most 2^(b+1)
+small : ℕ → ℕ → Bool
+small b k = leb (natAbs (component (numbers b) k)) (2 ^ (b + 1))
+
+all-small : (b : ℕ) → T (width b) → T (every 7 (small b))
+unfolding small numbers
+all-small = by-width (λ b. T (every 7 (small b))) tt tt tt
+
+pub number-small : (b : ℕ) → T (width b) → (k : ℕ) → k < 7 → natAbs (component (numbers b) k) ≤ 2 ^ (b + 1)
+unfolding small
+number-small b w k h = leb-yes (every-at 7 (small b) (all-small b w) k h)
+
+pub width-small : (b : ℕ) → T (width b) → b ≤ 26
+width-small = by-width (λ b. b ≤ 26) (lit≤ tt) (lit≤ tt) (lit≤ tt)

@@ -1,0 +1,89 @@
+-- `fill` meets its contract: the loop fills the coefficients one by one, and each is a number of an i32.
+-- Assumes nothing.
+use mathlib.Core.Path.{_≡_, ap₂, _∙_}
+use mathlib.Core.List.{List}
+use Prim.Native.Nat.{ℕ, _-_, _≤_}
+use native.Mathlib.Omega.{arith}
+use lib.Dec.{T}
+use lib.IntN.{ℤ, pos}
+use Rattle.integers.proofs.Tables.{Filled, filled-none, filled-more, filled-all}
+use Rattle.ring.specs.Element.{magnitudes}
+use Rattle.dct.specs.Limits.{samples-size, magnitudes-limit}
+use Rattle.cuts.specs.Width.{coefficient}
+use Rattle.elements.specs.Buffer.{element-at}
+use Rattle.rounding.specs.Asked.{Allowed}
+use Rattle.rounding.specs.Tables.{width, numbers}
+use Rattle.rounding.proofs.Sizes.{bounded}
+use Rattle.rounding.proofs.Steps.{coefficient-kept}
+use Rattle.rounding.proofs.fill.Statement.{statement}
+use Rattle.rounding.proofs.fill.Tie as tie
+
+allowed : {b : ℕ} {m u v : List ℤ} → T (width b) → m ≡ numbers b → u ≡ v → magnitudes v ≤ magnitudes-limit → Allowed b m u
+allowed w e f h = record { at-width = w; are-numbers = e; in-limit = rw f h }
+
+abbrev Inv-loop : tie.InvT-loop
+Inv-loop elements b coefficients₀ numbers-at-b i₀ coefficients i =
+    Filled (pos 0) samples-size (λ p. coefficient b (numbers b) (element-at elements p)) i coefficients
+
+abbrev μ-loop : tie.MeasureT-loop
+μ-loop elements b coefficients₀ numbers-at-b i₀ coefficients i = 64 - i
+
+numbers-at-requires : tie.Need-numbers-at-requires Inv-loop μ-loop
+numbers-at-requires c κs = c .pre .ready-width
+
+loop-holds : tie.Need-loop-holds Inv-loop μ-loop
+loop-holds c = filled-none (c .before .pre .coefficients-length)
+
+element-at-requires : tie.Need-element-at-requires Inv-loop μ-loop
+element-at-requires c κs = omega arith
+
+coefficient-requires : tie.Need-coefficient-requires Inv-loop μ-loop
+coefficient-requires c κs =
+    let start = c .before .before .before .before in
+    let table = c .before .before .before .numbers-at .ensures in
+    allowed (start .pre .ready-width) table (c .element-at .ensures) (start .pre .ready-limit _ (omega arith))
+
+mul-y : tie.Need-mul-y Inv-loop μ-loop
+mul-y c = omega arith
+
+slice-set-from-y : tie.Need-slice-set-from-y Inv-loop μ-loop
+slice-set-from-y c = omega arith
+
+add-i : tie.Need-add-i Inv-loop μ-loop
+add-i c = omega arith
+
+loop-less : tie.Need-loop-less Inv-loop μ-loop
+loop-less c = omega arith
+
+loop-again : tie.Need-loop-again Inv-loop μ-loop
+loop-again c =
+    let start = c .before .before .before .before .before in
+    let table = c .before .before .before .before .numbers-at .ensures in
+    let element = c .before .element-at .ensures in
+    let bounds = bounded (allowed (start .pre .ready-width) table element (start .pre .ready-limit _ (omega arith))) in
+    filled-more (omega arith) (c .before .before .before .loop .inv)
+    (coefficient-kept bounds (c .coefficient .ensures) ∙ ap₂ (coefficient (start .args .b)) table element)
+
+same-length : tie.Need-same-length Inv-loop μ-loop
+same-length c = omega arith
+
+returns : tie.Need-returns Inv-loop μ-loop
+returns c = filled-all (omega arith) (c .before .loop .inv)
+
+pub fill-spec : {M : Type 1} → statement M
+fill-spec =
+    tie.close
+    (tie.spec
+    Inv-loop
+    μ-loop
+    numbers-at-requires
+    loop-holds
+    element-at-requires
+    coefficient-requires
+    mul-y
+    slice-set-from-y
+    add-i
+    loop-less
+    loop-again
+    same-length
+    returns)

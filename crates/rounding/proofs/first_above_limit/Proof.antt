@@ -1,0 +1,68 @@
+-- `first_above_limit` meets its contract: the loop passes each element within the limit.
+-- Assumes nothing.
+use mathlib.Core.Path.{_≡_, sym, ap, _∙_}
+use Prim.Native.Nat.{_-_}
+use native.Mathlib.Omega.{arith}
+use Rattle.integers.proofs.Search.{Passed, passed-none, passed-more, first-at, first-none}
+use Rattle.ring.specs.Element.{magnitudes}
+use Rattle.dct.specs.Limits.{samples-size}
+use Rattle.rounding.proofs.Causes.{above, above-yes, above-no}
+use Rattle.rounding.proofs.first_above_limit.Statement.{statement}
+use Rattle.rounding.proofs.first_above_limit.Tie as tie
+
+abbrev Inv-loop : tie.InvT-loop
+Inv-loop elements p₀ p = Passed samples-size (above elements) p
+
+abbrev μ-loop : tie.MeasureT-loop
+μ-loop elements p₀ p = 64 - p
+
+loop-holds : tie.Need-loop-holds Inv-loop μ-loop
+loop-holds c = passed-none
+
+element-at-requires : tie.Need-element-at-requires Inv-loop μ-loop
+element-at-requires c κs = omega arith
+
+magnitudes-requires : tie.Need-magnitudes-requires Inv-loop μ-loop
+magnitudes-requires c κs = tt
+
+returns : tie.Need-returns Inv-loop μ-loop
+returns c =
+    let at = c .before .before .before .before in
+    let l = at .before .args .elements .now in
+    let sum = c .before .magnitudes .ensures ∙ ap magnitudes (c .before .before .element-at .ensures) in
+    let taken = c .before .before .before .loop-test .taken in
+    sym (first-at samples-size (above l) (at .loop .p) taken (at .loop .inv) (above-yes l (at .loop .p) sum (omega arith)))
+
+add-p : tie.Need-add-p Inv-loop μ-loop
+add-p c = omega arith
+
+loop-less : tie.Need-loop-less Inv-loop μ-loop
+loop-less c = omega arith
+
+loop-again : tie.Need-loop-again Inv-loop μ-loop
+loop-again c =
+    let at = c .before .before .before .before in
+    let l = at .before .args .elements .now in
+    let sum = c .before .magnitudes .ensures ∙ ap magnitudes (c .before .before .element-at .ensures) in
+    passed-more (c .before .before .before .loop-test .taken) (at .loop .inv) (above-no l (at .loop .p) sum (omega arith))
+
+returns-2 : tie.Need-returns-2 Inv-loop μ-loop
+returns-2 c =
+    let l = c .before .before .args .elements .now in
+    let e : c .before .loop .p ≡ samples-size = omega arith in
+    e ∙ sym (first-none samples-size (above l) (rw e at (c .before .loop .inv)))
+
+pub first-above-limit-spec : {M : Type 1} → statement M
+first-above-limit-spec =
+    tie.close
+    (tie.spec
+    Inv-loop
+    μ-loop
+    loop-holds
+    element-at-requires
+    magnitudes-requires
+    returns
+    add-p
+    loop-less
+    loop-again
+    returns-2)

@@ -1,0 +1,24 @@
+-- What the functions behind `round` ask: that its causes of refusal were ruled out.
+use mathlib.Core.Path.{_≡_}
+use mathlib.Core.List.{List}
+use Prim.Native.Nat.{ℕ, _≤_, _<_}
+use lib.Dec.{T}
+use lib.IntN.{ℤ}
+use lib.ListN.{length}
+use Rattle.ring.specs.Element.{magnitudes}
+use Rattle.dct.specs.Limits.{samples-size, components-size, magnitudes-limit}
+use Rattle.elements.specs.Buffer.{element-at}
+use Rattle.rounding.specs.Tables.{width, numbers}
+
+-- for a coefficient of u at b: m are the table numbers of a width, and u is within the limit
+pub record Allowed (b : ℕ) (m u : List ℤ) : Type 0 where
+  pub at-width : T (width b)
+  pub are-numbers : m ≡ numbers b
+  pub in-limit : magnitudes u ≤ magnitudes-limit
+
+-- for all 64
+pub record Ready (elements : List ℤ) (b : ℕ) (coefficients : List ℤ) : Type 0 where
+  pub elements-length : length elements ≡ components-size
+  pub coefficients-length : length coefficients ≡ samples-size
+  pub ready-width : T (width b)
+  pub ready-limit : (p : ℕ) → p < samples-size → magnitudes (element-at elements p) ≤ magnitudes-limit
