@@ -1,4 +1,6 @@
 // What the public jobs answer. specs/ gives 01's number and place for each case.
+ghost use mathlib.Core.Path.{_≡_};
+ghost use Rattle.answers.specs.Answer.{returned};
 
 pub enum Answer {
     // The call did its work.
@@ -11,4 +13,30 @@ pub enum Answer {
     Width,
     // The magnitudes of the element of this number sum above the limit.
     Magnitudes(usize),
+}
+
+// 01's number of an answer.
+pub fn number(a: Answer) -> u32
+    ensures { λ r. ⌜ r ≡ returned a .number ⌝ }
+{
+    match a {
+        Answer::Accepted => 0,
+        Answer::Lengths => 1,
+        Answer::Sample(_) => 2,
+        Answer::Width => 3,
+        Answer::Magnitudes(_) => 4,
+    }
+}
+
+// The place that it names.
+pub fn place(a: Answer) -> usize
+    ensures { λ r. ⌜ r ≡ returned a .place ⌝ }
+{
+    match a {
+        Answer::Accepted => 0,
+        Answer::Lengths => 0,
+        Answer::Sample(i) => i,
+        Answer::Width => 0,
+        Answer::Magnitudes(p) => p,
+    }
 }

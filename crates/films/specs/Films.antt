@@ -1,4 +1,5 @@
 -- The starred films (01, "Films to try"): what the definitions give, and what 01 says.
+use mathlib.Core.Path.{_≡_}
 use mathlib.Core.Bool.{Bool, true, cond}
 use mathlib.Core.List.{List, [], _∷_}
 use Prim.Native.Nat.{ℕ, _+_, _*_}
@@ -69,18 +70,18 @@ films =
     ∷ (truth (above (root 4) (thousandths 1415)) is truth true)
     -- all samples 1: u_0 at (0,0) is 128, all else 0, coefficient 64
     ∷ (elements-of (all (pos 1)) is first (pos 128))
-    ∷ (rounded 11 (number (pos 128)) is alone (pos 64))
-    ∷ (rounded 20 (number (pos 128)) is alone (pos 64))
-    ∷ (rounded 26 (number (pos 128)) is alone (pos 64))
+    ∷ (rounded 11 (at (all (pos 1)) 0 0) is alone (pos 64))
+    ∷ (rounded 20 (at (all (pos 1)) 0 0) is alone (pos 64))
+    ∷ (rounded 26 (at (all (pos 1)) 0 0) is alone (pos 64))
     -- all -2048: u_0 is -262,144, coefficient -131,072; all 2047: 262,016 and 131,008
     ∷ (elements-of (all (negsuc 2047)) is first (negsuc 262143))
     ∷ (elements-of (all (pos 2047)) is first (pos 262016))
-    ∷ (rounded 11 (number (negsuc 262143)) is alone (negsuc 131071))
-    ∷ (rounded 20 (number (negsuc 262143)) is alone (negsuc 131071))
-    ∷ (rounded 26 (number (negsuc 262143)) is alone (negsuc 131071))
-    ∷ (rounded 11 (number (pos 262016)) is alone (pos 131008))
-    ∷ (rounded 20 (number (pos 262016)) is alone (pos 131008))
-    ∷ (rounded 26 (number (pos 262016)) is alone (pos 131008))
+    ∷ (rounded 11 (at (all (negsuc 2047)) 0 0) is alone (negsuc 131071))
+    ∷ (rounded 20 (at (all (negsuc 2047)) 0 0) is alone (negsuc 131071))
+    ∷ (rounded 26 (at (all (negsuc 2047)) 0 0) is alone (negsuc 131071))
+    ∷ (rounded 11 (at (all (pos 2047)) 0 0) is alone (pos 131008))
+    ∷ (rounded 20 (at (all (pos 2047)) 0 0) is alone (pos 131008))
+    ∷ (rounded 26 (at (all (pos 2047)) 0 0) is alone (pos 131008))
     -- sample (0,0) = 1, others 0: (0,0) is 2; (0,1) is c_3+c_5; (1,1) is 2+c_2; (1,7) is c_6
     ∷ (at one 0 0 is number (pos 2))
     ∷ (at one 0 1 is add (c 3) (c 5))
@@ -95,3 +96,8 @@ films =
     ∷ (rounded 11 (only (pos 256) 2) is alone (pos 237))
     ∷ (rounded 11 (only (negsuc 255) 2) is alone (negsuc 235))
     ∷ []
+
+-- each gives what is said
+abbrev pub Hold : List Film → Type 0
+Hold [] = Unit
+Hold (f ∷ l) = (f .given ≡ f .said) × Hold l

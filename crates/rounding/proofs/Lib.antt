@@ -3,3 +3,4 @@ pub mod Tables
 pub mod Sizes
 pub mod Steps
 pub mod Causes
+pub mod Blocks

@@ -6,7 +6,7 @@ use mathlib.Core.List.{List}
 use Prim.Native.Nat.{ℕ, _+_, _*_, _/_, _%_, _≤_, _<_}
 use native.Mathlib.Omega.{arith}
 use lib.IntN.{ℤ, pos}
-use lib.ListN.{getD}
+use lib.ListN.{length, getD}
 use Rattle.integers.specs.Table.{table}
 use Rattle.integers.proofs.Tables.{is-table, getD-table, length-table}
 use Rattle.ring.specs.Element.{component, magnitudes}
@@ -21,6 +21,10 @@ use Rattle.elements.specs.Buffer.{element-at}
 use Rattle.transform.specs.Forward.{sample, elements-of}
 use Rattle.transform.proofs.Range.{AllInRange}
 use Rattle.transform.proofs.Blocks.{bounded}
+
+pub length-elements : (x : List ℤ) → length (elements-of x) ≡ components-size
+unfolding elements-of
+length-elements x = length-table components-size (λ i. component (element 2 (sample x) (i / 8)) (i % 8))
 
 -- component k of element p stands at index 8p + k
 place : (x : List ℤ) (p k : ℕ) → p < samples-size → k < 8 → getD (elements-of x) (8 * p + k) (pos 0) ≡ component (element 2 (sample x) p) k

@@ -1,17 +1,20 @@
 -- The ways out of the forward job, over plain variables: what it returns, and what it leaves.
 -- Assumes nothing.
-use mathlib.Core.Path.{_≡_, refl, sym, ap, _∙_}
-use mathlib.Core.Bool.{Bool, true, false, not}
+use mathlib.Core.Path.{_≡_, ap}
+use mathlib.Core.Bool.{Bool, not, _&&_}
 use mathlib.Core.List.{List}
 use Prim.Native.Nat.{ℕ, _≤_, _<_}
 use native.Mathlib.Omega.{arith}
+use lib.Dec.{T, eqb, eqb→eq}
 use lib.IntN.{ℤ}
 use lib.ListN.{length}
-use borrow.Author.Tests.{eq-eqb, ne-eqb, lt-ltb, le-ltb}
+use mir.Facts.{and-yes}
+use borrow.Author.Tests.{eq-eqb, ne-eqb, lt-ltb, le-ltb, not-false}
 use Rattle.integers.specs.Search.{first}
 use Rattle.integers.proofs.Search.{before-first}
 use Rattle.dct.specs.Limits.{samples-size, components-size, in-range}
-use Rattle.answers.specs.Answer.{Returned, accept}
+use Rattle.answers.specs.Answer.{Returned, lowest, accept, accepted}
+use Rattle.answers.proofs.Accepted.{lowest-passes, unless-accepted, lowest-accepted, accepted-written}
 use Rattle.transform.specs.Forward.{sample, elements-of, forward-returned, forward-elements}
 use Rattle.transform.proofs.Range.{AllInRange}
 
@@ -49,8 +52,25 @@ module _ (x e : List ℤ) where
       )
 
       pub all-in-range : samples-size ≤ i → AllInRange x
-      all-in-range h = record { at = λ q l. passes (in-range (sample x q)) (before-first samples-size (faulty x) q (rw (← f) (omega arith))) }
-        where
-          passes : (b : Bool) → not b ≡ false → b ≡ true
-          passes true e = refl
-          passes false e = sym e
+      all-in-range h = record { at = λ q l. not-false (in-range (sample x q)) (before-first samples-size (faulty x) q (rw (← f) (omega arith))) }
+
+-- ---- a call is accepted when the lengths are right and every sample is in range, and only then
+
+pub accepts : (x e : List ℤ) → length x ≡ samples-size → length e ≡ components-size → AllInRange x → forward-returned x e ≡ accept
+unfolding forward-returned
+accepts x e s t range =
+    rw (eq-eqb (length x) samples-size s, eq-eqb (length e) components-size t)
+    (lowest-passes samples-size (faulty x) 2 accept (λ i h. ap not (range .at i h)))
+
+pub accepted-means : (x e : List ℤ) → T (accepted (forward-returned x e)) → (length x ≡ samples-size) × (length e ≡ components-size) × AllInRange x
+unfolding forward-returned
+accepted-means x e h =
+    let lengths = eqb (length x) samples-size && eqb (length e) components-size in
+    let (both, rest) = unless-accepted lengths 0 (lowest samples-size (faulty x) 2 accept) h in
+    let (s, t) = and-yes (eqb (length x) samples-size) (eqb (length e) components-size) both in
+    let (none, done) = lowest-accepted samples-size (faulty x) 1 accept rest in
+    (eqb→eq (length x) samples-size s, eqb→eq (length e) components-size t, record { at = λ i l. not-false (in-range (sample x i)) (none i l) })
+
+pub accepted-leaves : (x e : List ℤ) → T (accepted (forward-returned x e)) → forward-elements x e ≡ elements-of x
+unfolding forward-elements
+accepted-leaves x e = accepted-written (forward-returned x e) (elements-of x) e

@@ -1,0 +1,47 @@
+-- A call is accepted exactly when no cause holds: for a test, and for a search for the lowest faulty index.
+-- Assumes nothing.
+use mathlib.Core.Path.{_≡_, refl}
+use mathlib.Core.Bool.{Bool, true, false, cond}
+use Prim.Native.Nat.{ℕ, suc, _<_}
+use native.Mathlib.Nat.{le-refl, lt-of-lt-of-le}
+use native.Mathlib.Omega.{arith}
+use lib.Dec.{T, ltb, eqb}
+use borrow.Author.Tests.{ne-eqb, le-ltb, ltb-false}
+use Rattle.integers.specs.Search.{first}
+use Rattle.integers.proofs.Search.{Passed, first-none, before-first}
+use Rattle.answers.specs.Answer.{Returned, unless, lowest, accepted, written}
+
+-- ---- no cause: the next one is asked
+
+pub unless-passes : (t : Bool) (n : ℕ) (next : Returned) → T t → unless t n next ≡ next
+unless-passes true n next h = refl
+
+pub lowest-passes : (size : ℕ) (faulty : ℕ → Bool) (n : ℕ) (next : Returned) → ((i : ℕ) → i < size → faulty i ≡ false) → lowest size faulty n next ≡ next
+lowest-passes size faulty n next h = rw (first-none size faulty (record { room = le-refl size; fails = h }), le-ltb size size (le-refl size))
+
+-- ---- an accepted call had no cause
+
+not-zero : (n : ℕ) → eqb (suc n) 0 ≡ false
+not-zero n = ne-eqb (suc n) 0 (λ e. omega arith)
+
+pub unless-accepted : (t : Bool) (n : ℕ) (next : Returned) → T (accepted (unless t (suc n) next)) → T t × T (accepted next)
+unless-accepted true n next h = (tt, h)
+unless-accepted false n next h = absurd (rw (not-zero n) at h)
+
+pub lowest-accepted : (size : ℕ) (faulty : ℕ → Bool) (n : ℕ) (next : Returned) → T (accepted (lowest size faulty (suc n) next))
+    → ((i : ℕ) → i < size → faulty i ≡ false) × T (accepted next)
+lowest-accepted size faulty n next h = go (ltb (first size faulty) size) refl h
+  where
+    go : (t : Bool) → ltb (first size faulty) size ≡ t → T (accepted (cond t (record { number = suc n; place = first size faulty }) next))
+        → ((i : ℕ) → i < size → faulty i ≡ false) × T (accepted next)
+    go true e h = absurd (rw (not-zero n) at h)
+    go false e h = ((λ i l. before-first size faulty i (lt-of-lt-of-le l (ltb-false (first size faulty) size e))), h)
+
+-- ---- what it leaves
+
+pub accepted-written : {A : Type 0} (r : Returned) (result was : A) → T (accepted r) → written r result was ≡ result
+accepted-written r result was h = go (accepted r) h
+  where
+    go : (t : Bool) → T t → cond t result was ≡ result
+    go true h = refl
+    go false h = absurd h

@@ -1,0 +1,2 @@
+-- What it means that a call is accepted.
+pub mod Accepted

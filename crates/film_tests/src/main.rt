@@ -1,0 +1,138 @@
+// Runs 01's films for forward and rounding, and some more of their kind, and prints what each call returns and leaves; the file stdout
+// has what 01 says. A line has the number and the place that the call returns, and then some numbers of its buffer, which held 7 before.
+ghost use Prim.Native.Nat.{_<_};
+use answers::Answer;
+use rounding::round;
+use transform::forward;
+
+// The digits of n below 10^10, without zeros in front, and a byte after them.
+fn print_digits(n: u64, after: u8) {
+    let mut power: u64 = 1000000000;
+    let mut shown = false;
+    while 0 < power {
+        let digit = (n / power % 10) as u8;
+        shown = shown || digit != 0 || power == 1;
+        if shown {
+            io::write_all(1, &[b'0' + digit]);
+        }
+        power /= 10;
+    }
+    io::write_all(1, &[after]);
+}
+
+fn print(n: i32, after: u8) {
+    if n < 0 {
+        io::write_all(1, b"-");
+    }
+    print_digits(integers::magnitude(n), after);
+}
+
+fn print_answer(a: Answer) {
+    print_digits(answers::number(a) as u64, b' ');
+    print_digits(answers::place(a) as u64, b' ');
+}
+
+// Forward of samples that are all `other`, but for x at index i: the first number, the last, and those of (0,1), (1,1) and (1,7) that
+// 01 names.
+fn try_forward(other: i32, x: i32, i: usize)
+    requires { ⌜ i < 64 ⌝ }
+{
+    let mut samples = [other; 64];
+    samples[i] = x;
+    let mut elements = [7i32; 512];
+    print_answer(forward(&samples, &mut elements));
+    print(elements[0], b' ');
+    print(elements[511], b' ');
+    print(elements[11], b' ');
+    print(elements[13], b' ');
+    print(elements[72], b' ');
+    print(elements[74], b' ');
+    print(elements[126], b'\n');
+}
+
+// A block that lacks a sample, which are all out of range; and a buffer that lacks a number.
+fn short_forward() {
+    let mut elements = [7i32; 512];
+    print_answer(forward(&[2048i32; 63], &mut elements));
+    print(elements[0], b'\n');
+    let mut short = [7i32; 511];
+    print_answer(forward(&[0i32; 64], &mut short));
+    print(short[0], b'\n');
+}
+
+// Rounding at b of elements that are all 0, but for x at component k of the set: the first coefficient, that at (1,1), and the last.
+fn try_round(x: i32, k: usize, b: u32)
+    requires { ⌜ k < 512 ⌝ }
+{
+    let mut elements = [0i32; 512];
+    elements[k] = x;
+    let mut coefficients = [7i32; 64];
+    print_answer(round(&elements, b, &mut coefficients));
+    print(coefficients[0], b' ');
+    print(coefficients[9], b' ');
+    print(coefficients[63], b'\n');
+}
+
+// A set that lacks a number, which are all too large, at no width; and a buffer that lacks a coefficient.
+fn short_round() {
+    let mut coefficients = [7i32; 64];
+    print_answer(round(&[262145i32; 511], 12, &mut coefficients));
+    print(coefficients[0], b'\n');
+    let mut short = [7i32; 63];
+    print_answer(round(&[0i32; 512], 11, &mut short));
+    print(short[0], b'\n');
+}
+
+// Forward of samples that are all `other`, but for x at (0,0), and then rounding at b: the coefficients at (0,0), (0,1), (1,1) and (7,7).
+fn try_both(other: i32, x: i32, b: u32) {
+    let mut samples = [other; 64];
+    samples[0] = x;
+    let mut elements = [7i32; 512];
+    print_answer(forward(&samples, &mut elements));
+    let mut coefficients = [7i32; 64];
+    print_answer(round(&elements, b, &mut coefficients));
+    print(coefficients[0], b' ');
+    print(coefficients[1], b' ');
+    print(coefficients[9], b' ');
+    print(coefficients[63], b'\n');
+}
+
+fn forward_films() {
+    io::write_all(1, b"forward\n");
+    try_forward(1, 1, 0);
+    try_forward(0, 1, 0);
+    try_forward(-2048, -2048, 0);
+    try_forward(2047, 2047, 0);
+    try_forward(0, 2048, 0);
+    try_forward(0, -2049, 63);
+    try_forward(2048, 0, 0);
+    short_forward();
+}
+
+fn round_films() {
+    io::write_all(1, b"round\n");
+    try_round(262144, 0, 11);
+    try_round(262144, 0, 20);
+    try_round(262144, 0, 26);
+    try_round(262145, 0, 26);
+    try_round(-2147483648, 511, 26);
+    try_round(256, 74, 11);
+    try_round(-256, 74, 11);
+    try_round(-262144, 505, 26);
+    try_round(262145, 0, 12);
+    short_round();
+}
+
+fn both_films() {
+    io::write_all(1, b"forward, then round\n");
+    try_both(1, 1, 11);
+    try_both(0, 1, 11);
+    try_both(-2048, -2048, 20);
+    try_both(2047, 2047, 26);
+}
+
+fn main() {
+    forward_films();
+    round_films();
+    both_films();
+}
