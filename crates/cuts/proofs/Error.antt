@@ -1,16 +1,18 @@
 -- How near a rounded coefficient lies to half of an element's value, at every width.
 -- Assumes nothing.
 use mathlib.Core.Path.{_≡_}
-use mathlib.Core.List.{List, [], _∷_}
-use Prim.Native.Nat.{ℕ, zero, suc, _+_, _*_, _^_, _≤_, _<_}
+use mathlib.Core.List.{List}
+use Prim.Native.Nat.{ℕ, suc, _+_, _*_, _^_, _≤_, _<_}
 use native.Mathlib.Omega.{arith}
 use lib.Dec.{T}
 use lib.IntN.{ℤ, pos, negsuc, _+ℤ_, _-ℤ_, _*ℤ_, natAbs}
 use lib.Pow.{pow-pos}
 use lib.Signed.{_≤ℤ_, _<ℤ_}
 use Rattle.integers.specs.Sum.{sum}
+use Rattle.integers.proofs.Sums.{sum-first}
 use Rattle.integers.proofs.Integer.{as-dif, dif-le, dif-lt, difs, *ℤ-pos1, ≤ℤ-trans, ≤ℤ-*ℤ, pos-≤ℤ, <ℤ→≤ℤ}
 use Rattle.ring.specs.Element.{component, magnitudes}
+use Rattle.ring.proofs.Magnitude.{sizes-le}
 use Rattle.cuts.specs.Fraction.{Fraction, whole, plus, times, minus, at-most}
 use Rattle.cuts.specs.Root.{root, below, above}
 use Rattle.cuts.specs.Value.{with-fractions, Near}
@@ -19,20 +21,7 @@ use Rattle.cuts.proofs.Order.{cross, less-yes}
 use Rattle.cuts.proofs.Below.{below-less-above}
 use Rattle.cuts.proofs.Tables.{under, over, under-below, over-above}
 use Rattle.cuts.proofs.Floor.{rounded-down}
-use Rattle.cuts.proofs.Within.{rising, falling, sizes, double, within-all}
-
--- ---- the magnitudes of u_1 to u_7
-
-pub sum-first : (n : ℕ) (f : ℕ → ℕ) → sum 0 _+_ (suc n) f ≡ f 0 + sum 0 _+_ n (λ k. f (suc k))
-unfolding sum
-sum-first zero f = omega arith
-sum-first (suc n) f = omega (arith, sum-first n f)
-
-pub components-le : (n : ℕ) (u : List ℤ) → sum 0 _+_ n (λ k. natAbs (component u k)) ≤ magnitudes u
-unfolding sum
-components-le zero u = omega arith
-components-le (suc n) [] = omega (arith, components-le n [])
-components-le (suc n) (x ∷ a) = omega (arith, sum-first n (λ k. natAbs (component (x ∷ a) k)), components-le n a)
+use Rattle.cuts.proofs.Within.{rising, falling, parts, double, within-all}
 
 -- ---- rounding adds at most 1/2: y is (N + B)/2B rounded down
 
@@ -65,7 +54,7 @@ module _ (b E : ℕ) (m u : List ℤ) (table : TableAt b m) (small : magnitudes 
   y = coefficient b m u
 
   L : ℕ
-  L = 1 * (0 + sum 0 _+_ 7 (sizes u))
+  L = 1 * (0 + sum 0 _+_ 7 (parts u))
 
   floor : (((pos 2 *ℤ pos (2 ^ b)) *ℤ y) ≤ℤ (N +ℤ pos (2 ^ b))) × ((N +ℤ pos (2 ^ b)) <ℤ ((pos 2 *ℤ pos (2 ^ b)) *ℤ (y +ℤ pos 1)))
   unfolding N y coefficient
@@ -73,7 +62,7 @@ module _ (b E : ℕ) (m u : List ℤ) (table : TableAt b m) (small : magnitudes 
 
   size : (c : ℕ) → c ≡ 2 * (2 ^ b + 2 * E) → (pos L +ℤ pos 2 *ℤ pos (2 ^ b)) ≤ℤ pos c
   unfolding L
-  size c e = pos-≤ℤ (omega (arith, sum-first 7 (λ k. natAbs (component u k)), components-le 8 u))
+  size c e = pos-≤ℤ (omega (arith, sum-first 7 (λ k. natAbs (component u k)), sizes-le 8 u))
 
   -- 2y + 2d and 2y - 2d
   top : Fraction

@@ -5,3 +5,4 @@ pub mod Tables
 pub mod Floor
 pub mod Within
 pub mod Error
+pub mod Some

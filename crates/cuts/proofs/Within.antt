@@ -66,8 +66,8 @@ terms u q k = times (component u (suc k)) (q (suc k))
 abbrev products : List ℤ → List ℤ → ℕ → ℤ
 products m u k = component m k *ℤ component u (suc k)
 
-abbrev pub sizes : List ℤ → ℕ → ℕ
-sizes u k = natAbs (component u (suc k))
+abbrev pub parts : List ℤ → ℕ → ℕ
+parts u k = natAbs (component u (suc k))
 
 pub double : (b : ℕ) → 2 ^ (b + 1) ≡ 2 * 2 ^ b
 double b = pow-add 2 b 1 ∙ mul-comm (2 ^ b) 2
@@ -119,9 +119,9 @@ module _ {R : ℤ → ℤ → Type 0} (O : Order R) (e : ℤ) (b : ℕ) where
   pub within-all : (m u : List ℤ) (q : ℕ → Fraction)
       → ((k : ℕ) → k < 7 → T (ltZ (pos 0) (component u (suc k))) → Inside (component m k) (q (suc k)))
       → ((k : ℕ) → k < 7 → T (ltZ (component u (suc k)) (pos 0)) → Outside (component m k) (q (suc k)))
-      → Within (with-fractions u q) (numerator b m u) (0 + sum 0 _+_ 7 (sizes u))
+      → Within (with-fractions u q) (numerator b m u) (0 + sum 0 _+_ 7 (parts u))
   unfolding with-fractions numerator
   within-all m u q f g =
       within-plus (whole (component u 0)) (sum (whole (pos 0)) plus 7 (terms u q))
-      (pos (2 ^ b) *ℤ component u 0) (sum (pos 0) _+ℤ_ 7 (products m u)) 0 (sum 0 _+_ 7 (sizes u)) (within-whole (component u 0))
-      (within-sum 7 (terms u q) (products m u) (sizes u) (λ k l. within-term (component u (suc k)) (component m k) (q (suc k)) (f k l) (g k l)))
+      (pos (2 ^ b) *ℤ component u 0) (sum (pos 0) _+ℤ_ 7 (products m u)) 0 (sum 0 _+_ 7 (parts u)) (within-whole (component u 0))
+      (within-sum 7 (terms u q) (products m u) (parts u) (λ k l. within-term (component u (suc k)) (component m k) (q (suc k)) (f k l) (g k l)))

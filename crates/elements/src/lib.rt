@@ -15,6 +15,12 @@ ghost use Rattle.elements.specs.Continued as spec;
 use integers::minus;
 use integers::plus;
 
+// The places of a block of 8 by 8: its samples, its elements and its coefficients.
+pub const PLACES: usize = 64;
+
+// The components of all its elements.
+pub const COMPONENTS: usize = 512;
+
 // The eight components, u_0 first.
 pub struct Element {
     pub components: [i32; 8],

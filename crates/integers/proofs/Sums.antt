@@ -101,6 +101,12 @@ module _ {A B : Type 0} (none : A) (plus : A → A → A) (M : CommutativeMonoid
 pub sum-times : (n s : ℕ) (f : ℕ → ℕ) → s * sum 0 _+_ n f ≡ sum 0 _+_ n (λ k. s * f k)
 sum-times n s f = sum-map 0 _+_ 0 _+_ (λ t. s * t) (mul-zero s) (mul-add s) n f
 
+-- the first term by itself
+pub sum-first : (n : ℕ) (f : ℕ → ℕ) → sum 0 _+_ (suc n) f ≡ f 0 + sum 0 _+_ n (λ k. f (suc k))
+unfolding sum
+sum-first zero f = omega arith
+sum-first (suc n) f = omega (arith, sum-first n f)
+
 pub sum-le : (n : ℕ) (f g : ℕ → ℕ) → ((k : ℕ) → k < n → f k ≤ g k) → sum 0 _+_ n f ≤ sum 0 _+_ n g
 unfolding sum
 sum-le zero f g h = le-refl 0

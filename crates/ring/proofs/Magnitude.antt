@@ -1,6 +1,6 @@
 -- The sum of the magnitudes of an element's components.
 -- Assumes nothing.
-use mathlib.Core.Path.{_≡_, sym, ap, _∙_}
+use mathlib.Core.Path.{_≡_, refl, sym, ap, _∙_}
 use mathlib.Core.List.{List, [], _∷_}
 use Prim.Native.Nat.{ℕ, zero, suc, _+_, _*_, _≤_, _<_}
 use native.Mathlib.Nat.{le-refl, le-of-eq, mul-add, mul-zero, mul-le-mul-left}
@@ -9,10 +9,34 @@ use lib.IntN.{ℤ, pos, natAbs}
 use lib.ListN.{length}
 use Rattle.integers.specs.Sum.{sum}
 use Rattle.integers.proofs.Magnitudes.{natAbs-add, natAbs-mul}
-use Rattle.integers.proofs.Sums.{naturals, sum-cong, sum-le, sum-none, sum-plus, sum-times}
-use Rattle.ring.specs.Element.{add, scale, only, combine, magnitudes}
+use Rattle.integers.proofs.Sums.{naturals, sum-cong, sum-first, sum-le, sum-none, sum-plus, sum-times}
+use Rattle.ring.specs.Element.{component, add, scale, only, combine, magnitudes}
 use Rattle.ring.proofs.Linear.{LinearMap, linear-combine}
 use Rattle.ring.proofs.Components.{Eight, expand}
+
+-- ---- the magnitudes summed from the front, component by component
+
+abbrev pub sizes : List ℤ → ℕ → ℕ
+sizes a n = sum 0 _+_ n (λ k. natAbs (component a k))
+
+pub sizes-le : (n : ℕ) (a : List ℤ) → sizes a n ≤ magnitudes a
+unfolding sum
+sizes-le zero a = omega arith
+sizes-le (suc n) [] = omega (arith, sizes-le n [])
+sizes-le (suc n) (x ∷ a) = omega (arith, sum-first n (λ k. natAbs (component (x ∷ a) k)), sizes-le n a)
+
+pub sizes-all : (n : ℕ) (a : List ℤ) → length a ≡ n → sizes a n ≡ magnitudes a
+unfolding sum
+sizes-all zero [] e = refl
+sizes-all zero (x ∷ a) e = absurd (omega arith)
+sizes-all (suc n) [] e = absurd (omega arith)
+sizes-all (suc n) (x ∷ a) e = omega (arith, sum-first n (λ k. natAbs (component (x ∷ a) k)), sizes-all n a (omega arith))
+
+pub component-le : (a : List ℤ) (k : ℕ) → natAbs (component a k) ≤ magnitudes a
+unfolding sum
+component-le a k = omega (arith, sizes-le (suc k) a)
+
+-- ---- sums and multiples
 
 pub magnitudes-add : (a b : List ℤ) → magnitudes (add a b) ≤ magnitudes a + magnitudes b
 magnitudes-add [] b = omega arith

@@ -15,23 +15,11 @@ use mir.Val.{SFits}
 use Rattle.integers.specs.Sum.{sum}
 use Rattle.integers.proofs.Magnitudes.{natAbs-add, natAbs-mul}
 use Rattle.ring.specs.Element.{component, magnitudes}
+use Rattle.ring.proofs.Magnitude.{sizes, sizes-le, component-le}
 use Rattle.dct.specs.Limits.{magnitudes-limit}
 use Rattle.cuts.specs.Width.{numerator, coefficient}
-use Rattle.cuts.proofs.Error.{sum-first, components-le}
 use Rattle.rounding.specs.Asked.{Allowed}
 use Rattle.rounding.proofs.Tables.{number-small, width-small}
-
--- ---- the magnitudes, summed from the front
-
-abbrev pub sizes : List ℤ → ℕ → ℕ
-sizes u n = sum 0 _+_ n (λ k. natAbs (component u k))
-
-pub sizes-all : (n : ℕ) (u : List ℤ) → length u ≡ n → sizes u n ≡ magnitudes u
-unfolding sum
-sizes-all zero [] e = refl
-sizes-all zero (x ∷ u) e = absurd (omega arith)
-sizes-all (suc n) [] e = absurd (omega arith)
-sizes-all (suc n) (x ∷ u) e = omega (arith, sum-first n (λ k. natAbs (component (x ∷ u) k)), sizes-all n u (omega arith))
 
 -- ---- the numerator, summed from the front
 
@@ -81,8 +69,8 @@ module _ {b : ℕ} {m u : List ℤ} (B : Bounded b m u) where
   power-le = let h : b + 1 ≤ 27 = omega (arith, B .width-bound) in pow-mono h
 
   -- 2^(b+1) times the magnitudes of the first n components, which no sum of n terms exceeds
-  sizes-le : (n : ℕ) → 2 ^ (b + 1) * sizes u n ≤ 2 ^ 45
-  sizes-le n = mul-le-mul power-le (le-trans (components-le n u) (B .magnitudes-bound))
+  scaled-sizes-le : (n : ℕ) → 2 ^ (b + 1) * sizes u n ≤ 2 ^ 45
+  scaled-sizes-le n = mul-le-mul power-le (le-trans (sizes-le n u) (B .magnitudes-bound))
 
   term-le : (k : ℕ) → k < 7 → natAbs (component m k *ℤ component u (suc k)) ≤ 2 ^ (b + 1) * natAbs (component u (suc k))
   term-le k h = product-le (component m k) (component u (suc k)) (B .number-bound k h)
@@ -95,15 +83,14 @@ module _ {b : ℕ} {m u : List ℤ} (B : Bounded b m u) where
       (omega (arith, natAbs-add (partial b m u n) (component m n *ℤ component u (suc n)), partial-le n (omega arith), term-le n (omega arith)))
 
   pub partial-small : (n : ℕ) → n ≤ 7 → natAbs (partial b m u n) ≤ 2 ^ 45
-  partial-small n h = le-trans (partial-le n h) (sizes-le (suc n))
+  partial-small n h = le-trans (partial-le n h) (scaled-sizes-le (suc n))
 
   pub term-small : (k : ℕ) → k < 7 → natAbs (component m k *ℤ component u (suc k)) ≤ 2 ^ 45
   unfolding sum
-  term-small k h = le-trans (term-le k h) (le-trans (mul-le-mul-left (2 ^ (b + 1)) (omega arith)) (sizes-le (suc (suc k))))
+  term-small k h = le-trans (term-le k h) (le-trans (mul-le-mul-left (2 ^ (b + 1)) (omega arith)) (scaled-sizes-le (suc (suc k))))
 
   pub component-small : (k : ℕ) → natAbs (component u k) ≤ magnitudes-limit
-  unfolding sum
-  component-small k = omega (arith, components-le (suc k) u, B .magnitudes-bound)
+  component-small k = le-trans (component-le u k) (B .magnitudes-bound)
 
   pub number-less : (k : ℕ) → k < 7 → natAbs (component m k) ≤ 2 ^ 27
   number-less k h = le-trans (B .number-bound k h) power-le
@@ -114,7 +101,7 @@ module _ {b : ℕ} {m u : List ℤ} (B : Bounded b m u) where
       let N = numerator b m u in
       let n : natAbs N ≤ 2 ^ (b + 1) * sizes u 8 = rw (partial-all b m u) at (partial-le 7 (le-refl 7)) in
       let s : 2 ^ (b + 1) * sizes u 8 ≤ 2 ^ (b + 1) * magnitudes-limit =
-      mul-le-mul-left (2 ^ (b + 1)) (le-trans (components-le 8 u) (B .magnitudes-bound)) in
+      mul-le-mul-left (2 ^ (b + 1)) (le-trans (sizes-le 8 u) (B .magnitudes-bound)) in
       let p : 2 ^ b ≤ 2 ^ (b + 1) = pow-mono (omega arith) in
       omega (arith, natAbs-add N (pos (2 ^ b)))
 

@@ -23,15 +23,11 @@ ghost use Rattle.rounding.specs.Asked.{Allowed, Ready};
 ghost use Rattle.rounding.specs.Rounding.{AllNear, round-returned, round-coefficients};
 ghost use Rattle.rounding.specs.Tables as tables;
 use answers::Answer;
+use elements::COMPONENTS;
 use elements::Element;
+use elements::PLACES;
 use elements::element_at;
 use integers::magnitude;
-
-// The elements of a set, and its coefficients.
-const SAMPLES: usize = 64;
-
-// The components of all its elements.
-const COMPONENTS: usize = 512;
 
 // The largest sum of an element's magnitudes.
 const MAGNITUDES_LIMIT: u64 = 262144;
@@ -142,7 +138,7 @@ fn first_above_limit(elements: &[i32]) -> usize
     ensures { λ r. ⌜ r ≡ first samples-size (λ p. ltb magnitudes-limit (ring.magnitudes (element-at (now (elements .entry)) p))) ⌝ }
 {
     let mut p = 0;
-    while p < SAMPLES {
+    while p < PLACES {
         let sum = magnitudes(element_at(elements, p));
         if MAGNITUDES_LIMIT < sum {
             return p;
@@ -159,7 +155,7 @@ fn fill(elements: &[i32], b: u32, coefficients: &mut [i32])
 {
     let numbers = numbers_at(b);
     let mut i = 0;
-    while i < SAMPLES {
+    while i < PLACES {
         let u = element_at(elements, i);
         let y = coefficient(u, b, numbers);
         coefficients[i] = y;
@@ -176,14 +172,14 @@ pub fn round(elements: &[i32], b: u32, coefficients: &mut [i32]) -> Answer
     if elements.len() != COMPONENTS {
         return Answer::Lengths;
     }
-    if coefficients.len() != SAMPLES {
+    if coefficients.len() != PLACES {
         return Answer::Lengths;
     }
     if !is_width(b) {
         return Answer::Width;
     }
     let p = first_above_limit(elements);
-    if p < SAMPLES {
+    if p < PLACES {
         return Answer::Magnitudes(p);
     }
     fill(elements, b, coefficients);

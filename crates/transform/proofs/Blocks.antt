@@ -11,6 +11,7 @@ use Rattle.integers.specs.Table.{table}
 use Rattle.integers.proofs.Sums.{sum-cong}
 use Rattle.integers.proofs.Tables.{is-table, getD-table, length-table}
 use Rattle.ring.specs.Element.{component, add, number, mul, magnitudes}
+use Rattle.ring.proofs.Magnitude.{component-le}
 use Rattle.ring.proofs.Components.{Eight, eight-only, eight-mul, eight-sum}
 use Rattle.dct.specs.Limits.{sample-limit, components-size}
 use Rattle.dct.specs.Transform.{factor, element, double-sum, step, Bounded}
@@ -28,11 +29,6 @@ use Rattle.transform.proofs.Range.{AllInRange, in-range-small}
 step-cong : (r s : ℕ → List ℤ) (k : ℕ) → ((n : ℕ) → n < 8 → r n ≡ s n) → step r k ≡ step s k
 unfolding step
 step-cong r s k e = sum-cong [] add 8 _ _ (λ n h. ap (λ a. mul a (factor k n)) (e n h))
-
-component-le : (a : List ℤ) (k : ℕ) → natAbs (component a k) ≤ magnitudes a
-component-le [] k = zero-le
-component-le (x ∷ a) zero = omega arith
-component-le (x ∷ a) (suc k) = omega (arith, component-le a k)
 
 -- the samples of a column, and the frequencies of that column
 abbrev pub column : List ℤ → ℕ → ℕ → ℤ

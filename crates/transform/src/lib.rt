@@ -1,4 +1,13 @@
-// The exact transform of a block: the 8-point step, and forward.
+// The exact transform of a block (01, "Elements"): 64 samples become 64 elements of eight components each.
+//
+// `forward` takes any buffers. An accepted call leaves the exact elements; a refused one leaves the buffer as it was, and names the first
+// cause. The work goes by columns, then rows: the columns of a block stand as eight rows of eight elements, a step goes over each, rows
+// and columns change places, and a step goes over each again. Nothing is rounded or shifted on the way.
+//
+// The 8-point step is factorised: sums and differences of the elements that lie as far from the one end of a row as from the other,
+// the even frequencies from the sums, by two more such levels, and the odd ones from the differences. It has 22 products with a cosine
+// in place of 64, each of which is eight additions. 32 bits suffice: a step adds four bits to what its elements need, so that elements
+// of 27 bits still fit (`Room`), and samples of 12 bits need 20 after two steps.
 ghost use mathlib.Core.Path.{_≡_};
 ghost use mathlib.Core.Bool.{not};
 ghost use Prim.Native.Nat.{_%_, _*_, _+_, _-_, _/_, _<_};
@@ -15,12 +24,19 @@ ghost use Rattle.elements.specs.Buffer.{Row, entry};
 ghost use Rattle.transform.specs.Forward.{forward-elements, forward-returned, sample};
 ghost use Rattle.transform.specs.Step.{Room, Rooms, Rows, row};
 use answers::Answer;
+use elements::COMPONENTS;
 use elements::Element;
+use elements::PLACES;
 use elements::add;
 use elements::only;
 use elements::put;
 use elements::subtract;
 use elements::times;
+
+// The range of samples.
+const LOWEST_SAMPLE: i32 = -2048;
+
+const HIGHEST_SAMPLE: i32 = 2047;
 
 // c_j × a + c_k × b
 fn sum_of_products(a: Element, j: usize, b: Element, k: usize) -> Element
@@ -135,7 +151,7 @@ fn columns(samples: &[i32]) -> [[Element; 8]; 8]
     let zero = only(0, 0);
     let mut r = [[zero; 8]; 8];
     let mut n = 0;
-    while n < 64 {
+    while n < PLACES {
         r[n / 8][n % 8] = only(samples[8 * (n % 8) + n / 8], 0);
         n += 1;
     }
@@ -163,7 +179,7 @@ fn transposed(x: [[Element; 8]; 8]) -> [[Element; 8]; 8]
     let zero = only(0, 0);
     let mut r = [[zero; 8]; 8];
     let mut n = 0;
-    while n < 64 {
+    while n < PLACES {
         r[n / 8][n % 8] = x[n % 8][n / 8];
         n += 1;
     }
@@ -176,7 +192,7 @@ fn store(e: [[Element; 8]; 8], elements: &mut [i32])
     ensures { λ r. ⌜ now (elements .exit) ≡ table components-size (λ i. ring.component (entry (row e (i / 8 / 8)) (i / 8 % 8)) (i % 8)) ⌝ }
 {
     let mut p = 0;
-    while p < 64 {
+    while p < PLACES {
         put(elements, p, e[p / 8][p % 8]);
         p += 1;
     }
@@ -186,10 +202,10 @@ fn store(e: [[Element; 8]; 8], elements: &mut [i32])
 fn outside(x: i32) -> bool
     ensures { λ r. ⌜ r ≡ not (in-range x) ⌝ }
 {
-    if x < -2048 {
+    if x < LOWEST_SAMPLE {
         return true;
     }
-    2047 < x
+    HIGHEST_SAMPLE < x
 }
 
 // The lowest index of a sample that is out of range, and 64 where there is none.
@@ -198,13 +214,13 @@ fn first_outside(samples: &[i32]) -> usize
     ensures { λ r. ⌜ r ≡ first samples-size (λ i. not (in-range (sample (now (samples .entry)) i))) ⌝ }
 {
     let mut i = 0;
-    while i < 64 {
+    while i < PLACES {
         if outside(samples[i]) {
             return i;
         }
         i += 1;
     }
-    64
+    PLACES
 }
 
 // The exact elements of a block of 64 samples, or the reason why there are none; then `elements` is as it was.
@@ -212,14 +228,14 @@ pub fn forward(samples: &[i32], elements: &mut [i32]) -> Answer
     ensures { λ r. ⌜ returned r ≡ forward-returned (now (samples .entry)) (now (elements .entry)) ⌝ }
     ensures { λ r. ⌜ now (elements .exit) ≡ forward-elements (now (samples .entry)) (now (elements .entry)) ⌝ }
 {
-    if samples.len() != 64 {
+    if samples.len() != PLACES {
         return Answer::Lengths;
     }
-    if elements.len() != 512 {
+    if elements.len() != COMPONENTS {
         return Answer::Lengths;
     }
     let i = first_outside(samples);
-    if i < 64 {
+    if i < PLACES {
         return Answer::Sample(i);
     }
     store(steps(transposed(steps(columns(samples)))), elements);

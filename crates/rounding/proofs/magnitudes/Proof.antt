@@ -13,7 +13,7 @@ use mir.ValLaws.{toZ-ofZ}
 use borrow.Author.Needs.{needs}
 use Rattle.integers.specs.Sum.{sum}
 use Rattle.ring.specs.Element.{component}
-use Rattle.rounding.proofs.Sizes.{sizes, sizes-all}
+use Rattle.ring.proofs.Magnitude.{sizes, sizes-all}
 use Rattle.rounding.proofs.magnitudes.Statement.{statement}
 use Rattle.rounding.proofs.magnitudes.Tie as tie
 
