@@ -134,7 +134,7 @@ fn differences(x: [Element; 8]) -> [Element; 4]
 }
 
 // The 8-point step over one row.
-pub fn step(x: [Element; 8]) -> [Element; 8]
+fn step(x: [Element; 8]) -> [Element; 8]
     requires { ⌜ Room 8 27 x ⌝ }
     ensures { λ r. ⌜ Row 8 (dct.step (entry x)) r ⌝ }
 {
