@@ -3,7 +3,7 @@
 use mathlib.Core.Path.{_≡_}
 use mathlib.Core.Bool.{Bool, _&&_}
 use mathlib.Core.List.{List}
-use Prim.Native.Nat.{ℕ, suc, _-_, _≤_, _<_}
+use Prim.Native.Nat.{ℕ, suc, _-_, _≤_}
 use native.Mathlib.Nat.{not-suc-le-zero}
 use native.Mathlib.Omega.{arith}
 use lib.Dec.{T, ltb→lt}
@@ -31,36 +31,34 @@ module _ (k : ℕ) (l : 1 ≤ k) (h : k ≤ 7) where
       let e : suc (k - 1) ≡ k = omega arith in
       rw e at (and-yes (below (root (suc (k - 1))) (whole (pos 0))) (above (root (suc (k - 1))) (whole (pos 2))) (every-at 7 between between-test (k - 1) (omega arith)))
 
--- 0 or 2, by the sign of a component
-abbrev low : ℤ → Fraction
-low (pos n) = whole (pos 0)
-low (negsuc n) = whole (pos 2)
+-- p or q, by the sign of a component
+abbrev by-sign : Fraction → Fraction → ℤ → Fraction
+by-sign p q (pos n) = p
+by-sign p q (negsuc n) = q
 
-abbrev high : ℤ → Fraction
-high (pos n) = whole (pos 2)
-high (negsuc n) = whole (pos 0)
+module _ (p q : Fraction) (P : Fraction → Type 0) where
+  when-positive : P p → (z : ℤ) → T (ltZ (pos 0) z) → P (by-sign p q z)
+  when-positive h (pos n) t = h
+  when-positive h (negsuc n) t = absurd t
 
-not-below-zero : (n : ℕ) → T (ltZ (pos n) (pos 0)) → ⊥
-not-below-zero n t = not-suc-le-zero (ltb→lt n 0 t)
+  when-negative : P q → (z : ℤ) → T (ltZ z (pos 0)) → P (by-sign p q z)
+  when-negative h (pos n) t = absurd (not-suc-le-zero (ltb→lt n 0 t))
+  when-negative h (negsuc n) t = h
 
-pub some-low : (u : List ℤ) → Low u (λ k. low (component u k))
-some-low u = record { at-positive = λ k l h. positive k l h (component u k); at-negative = λ k l h. negative k l h (component u k) }
-  where
-    positive : (k : ℕ) → 1 ≤ k → k ≤ 7 → (z : ℤ) → T (ltZ (pos 0) z) → T (below (root k) (low z))
-    positive k l h (pos n) t = at k l h .0
-    positive k l h (negsuc n) t = absurd t
+abbrev zero : Fraction
+zero = whole (pos 0)
 
-    negative : (k : ℕ) → 1 ≤ k → k ≤ 7 → (z : ℤ) → T (ltZ z (pos 0)) → T (above (root k) (low z))
-    negative k l h (pos n) t = absurd (not-below-zero n t)
-    negative k l h (negsuc n) t = at k l h .1
+abbrev two : Fraction
+two = whole (pos 2)
 
-pub some-high : (u : List ℤ) → High u (λ k. high (component u k))
-some-high u = record { at-positive = λ k l h. positive k l h (component u k); at-negative = λ k l h. negative k l h (component u k) }
-  where
-    positive : (k : ℕ) → 1 ≤ k → k ≤ 7 → (z : ℤ) → T (ltZ (pos 0) z) → T (above (root k) (high z))
-    positive k l h (pos n) t = at k l h .1
-    positive k l h (negsuc n) t = absurd t
+pub some-low : (u : List ℤ) → Low u (λ k. by-sign zero two (component u k))
+some-low u = record {
+  at-positive = λ k l h. when-positive zero two (λ x. T (below (root k) x)) (at k l h .0) (component u k);
+  at-negative = λ k l h. when-negative zero two (λ x. T (above (root k) x)) (at k l h .1) (component u k);
+}
 
-    negative : (k : ℕ) → 1 ≤ k → k ≤ 7 → (z : ℤ) → T (ltZ z (pos 0)) → T (below (root k) (high z))
-    negative k l h (pos n) t = absurd (not-below-zero n t)
-    negative k l h (negsuc n) t = at k l h .0
+pub some-high : (u : List ℤ) → High u (λ k. by-sign two zero (component u k))
+some-high u = record {
+  at-positive = λ k l h. when-positive two zero (λ x. T (above (root k) x)) (at k l h .1) (component u k);
+  at-negative = λ k l h. when-negative two zero (λ x. T (below (root k) x)) (at k l h .0) (component u k);
+}

@@ -1,7 +1,7 @@
 -- Fractions (01, "Where a fraction lies against a cosine"): "pairs of whole numbers, the lower one above 0". They are compared by
 -- cross-multiplication, and two pairs of one value are not made equal.
 use mathlib.Core.Bool.{Bool}
-use Prim.Native.Nat.{ℕ, _+_, _*_, _<_}
+use Prim.Native.Nat.{ℕ, _*_, _<_}
 use native.Mathlib.Nat.{mul-pos}
 use lib.Dec.{lit<}
 use lib.IntN.{ℤ, pos, _+ℤ_, _*ℤ_, negℤ}

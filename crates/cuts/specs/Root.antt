@@ -1,7 +1,7 @@
 -- The cosines c_1 to c_7 as square roots, and where a fraction lies against them (01, "Where a fraction lies against a cosine").
 use mathlib.Core.Path.{_≡_}
 use mathlib.Core.Bool.{Bool, not, _||_}
-use mathlib.Core.List.{List, [], _∷_}
+use mathlib.Core.List.{[], _∷_}
 use Prim.Native.Nat.{ℕ, _-_}
 use lib.Dec.{T}
 use lib.IntN.{pos, _*ℤ_}

@@ -1,7 +1,7 @@
 -- The step by halves, as the code makes it: sums and differences of the elements that lie as far from the one end of a row as from the other,
 -- then the even frequencies from the sums, and the odd ones from the differences.
 -- Assumes nothing.
-use mathlib.Core.Path.{_≡_, sym, ap₂, _∙_}
+use mathlib.Core.Path.{_≡_, ap₂, _∙_}
 use mathlib.Core.Bool.{Bool}
 use mathlib.Core.List.{List, [], _∷_}
 use Prim.Native.Nat.{ℕ, _+_, _*_, _-_, _<_}

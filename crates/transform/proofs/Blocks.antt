@@ -1,8 +1,8 @@
 -- The steps over columns and then rows make the exact elements of a block, and there is room for each.
 -- Assumes nothing.
 use mathlib.Core.Path.{_≡_, sym, ap, _∙_}
-use mathlib.Core.List.{List, [], _∷_}
-use Prim.Native.Nat.{ℕ, zero, suc, _+_, _*_, _/_, _%_, _^_, _≤_, _<_, zero-le}
+use mathlib.Core.List.{List, []}
+use Prim.Native.Nat.{ℕ, _+_, _*_, _/_, _%_, _≤_, _<_}
 use native.Mathlib.Nat.{le-trans}
 use native.Mathlib.Omega.{arith}
 use lib.Dec.{lit<, lit≤}
@@ -14,7 +14,7 @@ use Rattle.ring.specs.Element.{component, add, number, mul, magnitudes}
 use Rattle.ring.proofs.Magnitude.{component-le}
 use Rattle.ring.proofs.Components.{Eight, eight-only, eight-mul, eight-sum}
 use Rattle.dct.specs.Limits.{sample-limit, components-size}
-use Rattle.dct.specs.Transform.{factor, element, double-sum, step, Bounded}
+use Rattle.dct.specs.Transform.{factor, element, step, Bounded}
 use Rattle.dct.proofs.Factors.{eight-factor}
 use Rattle.dct.proofs.Bound.{bound}
 use Rattle.dct.proofs.Dimensions.{first-dimension, element-double-sum, columns-then-rows}

@@ -52,12 +52,4 @@ returns-4 c =
 pub element-product-spec : {M : Type 1} → statement M
 element-product-spec =
     tie.close
-    (tie.spec
-    returns
-    returns-2
-    returns-3
-    only-requires
-    times-requires
-    mul-result
-    element-copy-out-result
-    returns-4)
+    (tie.spec returns returns-2 returns-3 only-requires times-requires mul-result element-copy-out-result returns-4)

@@ -69,18 +69,5 @@ returns c =
 pub add-spec : {M : Type 1} → statement M
 add-spec =
     tie.close
-    (tie.spec
-    Inv-loop
-    μ-loop
-    loop-holds
-    mul-plus
-    array-copy-out-plus
-    mul-plus-2
-    array-copy-out-plus-2
-    plus-requires
-    mul-r
-    array-set-from-r
-    add-i
-    loop-less
-    loop-again
-    returns)
+    (tie.spec Inv-loop μ-loop loop-holds mul-plus array-copy-out-plus mul-plus-2 array-copy-out-plus-2 plus-requires mul-r array-set-from-r add-i
+    loop-less loop-again returns)

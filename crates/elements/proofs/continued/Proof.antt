@@ -79,17 +79,5 @@ returns-4 c =
 pub continued-spec : {M : Type 1} → statement M
 continued-spec =
     tie.close
-    (tie.spec
-    sub-result
-    mul-result
-    array-copy-out-result
-    returns
-    mul-result-2
-    array-copy-out-result-2
-    returns-2
-    returns-3
-    sub-minus
-    mul-minus
-    array-copy-out-minus
-    minus-requires
-    returns-4)
+    (tie.spec sub-result mul-result array-copy-out-result returns mul-result-2 array-copy-out-result-2 returns-2 returns-3 sub-minus mul-minus
+    array-copy-out-minus minus-requires returns-4)

@@ -60,17 +60,4 @@ returns c = filled-all (omega arith) (c .before .loop .inv)
 pub element-at-spec : {M : Type 1} → statement M
 element-at-spec =
     tie.close
-    (tie.spec
-    Inv-loop
-    μ-loop
-    loop-holds
-    mul-r
-    add-r
-    mul-r-2
-    shared-slice-copy-out-r
-    mul-r-3
-    array-set-from-r
-    add-k
-    loop-less
-    loop-again
-    returns)
+    (tie.spec Inv-loop μ-loop loop-holds mul-r add-r mul-r-2 shared-slice-copy-out-r mul-r-3 array-set-from-r add-k loop-less loop-again returns)

@@ -61,18 +61,5 @@ returns c = stored-all (omega arith) (c .before .loop .inv)
 pub put-spec : {M : Type 1} → statement M
 put-spec =
     tie.close
-    (tie.spec
-    Inv-loop
-    μ-loop
-    loop-holds
-    mul-buffer
-    array-copy-out-buffer
-    mul-t11
-    add-t12
-    mul-t13
-    slice-set-from-buffer
-    add-k
-    loop-less
-    loop-again
-    same-length
-    returns)
+    (tie.spec Inv-loop μ-loop loop-holds mul-buffer array-copy-out-buffer mul-t11 add-t12 mul-t13 slice-set-from-buffer add-k loop-less loop-again
+    same-length returns)

@@ -69,18 +69,5 @@ returns c =
 pub subtract-spec : {M : Type 1} → statement M
 subtract-spec =
     tie.close
-    (tie.spec
-    Inv-loop
-    μ-loop
-    loop-holds
-    mul-minus
-    array-copy-out-minus
-    mul-minus-2
-    array-copy-out-minus-2
-    minus-requires
-    mul-r
-    array-set-from-r
-    add-i
-    loop-less
-    loop-again
-    returns)
+    (tie.spec Inv-loop μ-loop loop-holds mul-minus array-copy-out-minus mul-minus-2 array-copy-out-minus-2 minus-requires mul-r array-set-from-r add-i
+    loop-less loop-again returns)

@@ -86,20 +86,5 @@ returns c =
 pub times-spec : {M : Type 1} → statement M
 times-spec =
     tie.close
-    (tie.spec
-    Inv-loop
-    μ-loop
-    loop-holds
-    add-continued
-    sub-continued
-    continued-requires
-    add-continued-2
-    add-continued-3
-    continued-requires-2
-    plus-requires
-    mul-r
-    array-set-from-r
-    add-i
-    loop-less
-    loop-again
-    returns)
+    (tie.spec Inv-loop μ-loop loop-holds add-continued sub-continued continued-requires add-continued-2 add-continued-3 continued-requires-2
+    plus-requires mul-r array-set-from-r add-i loop-less loop-again returns)

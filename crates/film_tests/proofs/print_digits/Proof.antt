@@ -51,17 +51,5 @@ returns c = tt
 pub print-digits-spec : {M : Type 1} → statement M
 print-digits-spec =
     tie.close
-    (tie.spec
-    Inv-loop
-    μ-loop
-    loop-holds
-    div-digit
-    cast-digit
-    add-t13
-    slice-aggregate-write-all
-    write-all-requires
-    loop-less
-    loop-again
-    slice-aggregate-write-all-2
-    write-all-requires-2
-    returns)
+    (tie.spec Inv-loop μ-loop loop-holds div-digit cast-digit add-t13 slice-aggregate-write-all write-all-requires loop-less loop-again
+    slice-aggregate-write-all-2 write-all-requires-2 returns)

@@ -73,17 +73,5 @@ returns c = filled-all (omega arith) (c .before .loop .inv)
 pub fill-spec : {M : Type 1} → statement M
 fill-spec =
     tie.close
-    (tie.spec
-    Inv-loop
-    μ-loop
-    numbers-at-requires
-    loop-holds
-    element-at-requires
-    coefficient-requires
-    mul-y
-    slice-set-from-y
-    add-i
-    loop-less
-    loop-again
-    same-length
-    returns)
+    (tie.spec Inv-loop μ-loop numbers-at-requires loop-holds element-at-requires coefficient-requires mul-y slice-set-from-y add-i loop-less
+    loop-again same-length returns)

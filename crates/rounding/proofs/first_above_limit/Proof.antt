@@ -55,14 +55,4 @@ returns-2 c =
 pub first-above-limit-spec : {M : Type 1} → statement M
 first-above-limit-spec =
     tie.close
-    (tie.spec
-    Inv-loop
-    μ-loop
-    loop-holds
-    element-at-requires
-    magnitudes-requires
-    returns
-    add-p
-    loop-less
-    loop-again
-    returns-2)
+    (tie.spec Inv-loop μ-loop loop-holds element-at-requires magnitudes-requires returns add-p loop-less loop-again returns-2)

@@ -69,15 +69,4 @@ returns c =
 pub magnitudes-spec : {M : Type 1} → statement M
 magnitudes-spec =
     tie.close
-    (tie.spec
-    Inv-loop
-    μ-loop
-    loop-holds
-    mul-magnitude
-    array-copy-out-magnitude
-    magnitude-requires
-    add-s
-    add-k
-    loop-less
-    loop-again
-    returns)
+    (tie.spec Inv-loop μ-loop loop-holds mul-magnitude array-copy-out-magnitude magnitude-requires add-s add-k loop-less loop-again returns)

@@ -73,20 +73,6 @@ returns c =
 pub numerator-spec : {M : Type 1} → statement M
 numerator-spec =
     tie.close
-    (tie.spec
-    Inv-loop
-    μ-loop
-    power-of-two-requires
-    array-copy-out-plus-product
-    plus-product-requires
-    loop-holds
-    mul-plus-product
-    array-copy-out-plus-product-2
-    add-plus-product
-    mul-plus-product-2
-    array-copy-out-plus-product-3
-    plus-product-requires-2
-    add-k
-    loop-less
-    loop-again
+    (tie.spec Inv-loop μ-loop power-of-two-requires array-copy-out-plus-product plus-product-requires loop-holds mul-plus-product
+    array-copy-out-plus-product-2 add-plus-product mul-plus-product-2 array-copy-out-plus-product-3 plus-product-requires-2 add-k loop-less loop-again
     returns)

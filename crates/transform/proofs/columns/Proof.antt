@@ -72,21 +72,5 @@ returns c = grid-all (omega arith) (c .before .loop .inv)
 pub columns-spec : {M : Type 1} → statement M
 columns-spec =
     tie.close
-    (tie.spec
-    Inv-loop
-    μ-loop
-    only-requires
-    loop-holds
-    mul-only
-    add-only
-    mul-only-2
-    shared-slice-copy-out-only
-    only-requires-2
-    mul-t17
-    mul-t20
-    index-1-r
-    index-2-r
-    add-n
-    loop-less
-    loop-again
-    returns)
+    (tie.spec Inv-loop μ-loop only-requires loop-holds mul-only add-only mul-only-2 shared-slice-copy-out-only only-requires-2 mul-t17 mul-t20
+    index-1-r index-2-r add-n loop-less loop-again returns)

@@ -66,20 +66,5 @@ returns c = record { at = λ n h. c .before .loop .inv .done n (omega arith) }
 pub differences-spec : {M : Type 1} → statement M
 differences-spec =
     tie.close
-    (tie.spec
-    Inv-loop
-    μ-loop
-    array-copy-out-r
-    loop-holds
-    mul-subtract
-    array-copy-out-subtract
-    sub-subtract
-    mul-subtract-2
-    array-copy-out-subtract-2
-    subtract-requires
-    mul-r
-    array-set-from-r
-    add-n
-    loop-less
-    loop-again
-    returns)
+    (tie.spec Inv-loop μ-loop array-copy-out-r loop-holds mul-subtract array-copy-out-subtract sub-subtract mul-subtract-2 array-copy-out-subtract-2
+    subtract-requires mul-r array-set-from-r add-n loop-less loop-again returns)

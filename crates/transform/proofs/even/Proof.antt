@@ -1,6 +1,6 @@
 -- `even` meets its contract: what its calls ensure is one of the factorised forms of the half-step.
 -- Assumes nothing.
-use mathlib.Core.Path.{_≡_, ap, ap₂, _∙_}
+use mathlib.Core.Path.{ap, ap₂, _∙_}
 use Prim.Native.Nat.{ℕ, _<_}
 use native.Mathlib.Omega.{arith}
 use lib.Dec.{lit<}
@@ -109,19 +109,6 @@ returns c =
 pub even-spec : {M : Type 1} → statement M
 even-spec =
     tie.close
-    (tie.spec
-    array-copy-out-s0
-    array-copy-out-s1
-    array-copy-out-s2
-    array-copy-out-s3
-    add-requires
-    add-requires-2
-    subtract-requires
-    subtract-requires-2
-    add-requires-3
-    times-requires
-    sum-of-products-requires
-    subtract-requires-3
-    times-requires-2
-    difference-of-products-requires
+    (tie.spec array-copy-out-s0 array-copy-out-s1 array-copy-out-s2 array-copy-out-s3 add-requires add-requires-2 subtract-requires
+    subtract-requires-2 add-requires-3 times-requires sum-of-products-requires subtract-requires-3 times-requires-2 difference-of-products-requires
     returns)

@@ -61,15 +61,4 @@ returns-2 c =
 pub first-outside-spec : {M : Type 1} → statement M
 first-outside-spec =
     tie.close
-    (tie.spec
-    Inv-loop
-    μ-loop
-    loop-holds
-    mul-outside
-    shared-slice-copy-out-outside
-    outside-requires
-    returns
-    add-i
-    loop-less
-    loop-again
-    returns-2)
+    (tie.spec Inv-loop μ-loop loop-holds mul-outside shared-slice-copy-out-outside outside-requires returns add-i loop-less loop-again returns-2)

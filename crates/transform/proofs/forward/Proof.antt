@@ -57,15 +57,5 @@ returns-4 c =
 pub forward-spec : {M : Type 1} → statement M
 forward-spec =
     tie.close
-    (tie.spec
-    returns
-    returns-2
-    first-outside-requires
-    returns-3
-    columns-requires
-    steps-requires
-    transposed-requires
-    steps-requires-2
-    store-requires
-    same-length
-    returns-4)
+    (tie.spec returns returns-2 first-outside-requires returns-3 columns-requires steps-requires transposed-requires steps-requires-2 store-requires
+    same-length returns-4)

@@ -110,21 +110,6 @@ returns c =
 pub odd-spec : {M : Type 1} → statement M
 odd-spec =
     tie.close
-    (tie.spec
-    array-copy-out-d0
-    array-copy-out-d1
-    array-copy-out-d2
-    array-copy-out-d3
-    sum-of-products-requires
-    sum-of-products-requires-2
-    add-requires
-    difference-of-products-requires
-    sum-of-products-requires-3
-    subtract-requires
-    difference-of-products-requires-2
-    sum-of-products-requires-4
-    add-requires-2
-    difference-of-products-requires-3
-    difference-of-products-requires-4
-    add-requires-3
-    returns)
+    (tie.spec array-copy-out-d0 array-copy-out-d1 array-copy-out-d2 array-copy-out-d3 sum-of-products-requires sum-of-products-requires-2 add-requires
+    difference-of-products-requires sum-of-products-requires-3 subtract-requires difference-of-products-requires-2 sum-of-products-requires-4
+    add-requires-2 difference-of-products-requires-3 difference-of-products-requires-4 add-requires-3 returns)

@@ -63,17 +63,5 @@ returns c =
 pub step-spec : {M : Type 1} → statement M
 step-spec =
     tie.close
-    (tie.spec
-    sums-requires
-    even-requires
-    differences-requires
-    odd-requires
-    array-copy-out-t8
-    array-copy-out-t11
-    array-copy-out-t14
-    array-copy-out-t17
-    array-copy-out-t20
-    array-copy-out-t23
-    array-copy-out-t26
-    array-copy-out-t29
-    returns)
+    (tie.spec sums-requires even-requires differences-requires odd-requires array-copy-out-t8 array-copy-out-t11 array-copy-out-t14 array-copy-out-t17
+    array-copy-out-t20 array-copy-out-t23 array-copy-out-t26 array-copy-out-t29 returns)

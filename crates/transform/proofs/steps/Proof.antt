@@ -50,16 +50,4 @@ returns c = record { at = λ i h. c .before .loop .inv .done i (omega arith) }
 pub steps-spec : {M : Type 1} → statement M
 steps-spec =
     tie.close
-    (tie.spec
-    Inv-loop
-    μ-loop
-    loop-holds
-    mul-step
-    array-copy-out-step
-    step-requires
-    mul-r
-    array-set-from-r
-    add-i
-    loop-less
-    loop-again
-    returns)
+    (tie.spec Inv-loop μ-loop loop-holds mul-step array-copy-out-step step-requires mul-r array-set-from-r add-i loop-less loop-again returns)

@@ -1,6 +1,6 @@
 -- `store` meets its contract: the loop stores element after element.
 -- Assumes nothing.
-use mathlib.Core.Path.{_≡_, sym, ap, _∙_, subst}
+use mathlib.Core.Path.{_≡_, sym, _∙_}
 use Prim.Native.Nat.{ℕ, _+_, _*_, _-_, _/_, _%_, _≤_, _<_}
 use native.Mathlib.Omega.{arith}
 use lib.IntN.{pos}
@@ -69,17 +69,4 @@ returns c = filled-all (omega arith) (c .before .loop .inv)
 pub store-spec : {M : Type 1} → statement M
 store-spec =
     tie.close
-    (tie.spec
-    Inv-loop
-    μ-loop
-    loop-holds
-    mul-put
-    mul-put-2
-    index-1-put
-    index-2-put
-    put-requires
-    add-p
-    loop-less
-    loop-again
-    same-length
-    returns)
+    (tie.spec Inv-loop μ-loop loop-holds mul-put mul-put-2 index-1-put index-2-put put-requires add-p loop-less loop-again same-length returns)

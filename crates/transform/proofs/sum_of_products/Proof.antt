@@ -1,7 +1,6 @@
 -- `sum_of_products` meets its contract: what the two products and `add` ensure, with room for each.
 -- Assumes nothing.
 use mathlib.Core.Path.{ap₂, _∙_}
-use Prim.Native.Nat.{_<_}
 use native.Mathlib.Omega.{arith}
 use borrow.Author.Needs.{needs}
 use Rattle.ring.specs.Element.{add}

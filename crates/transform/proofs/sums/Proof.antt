@@ -66,20 +66,5 @@ returns c = record { at = λ n h. c .before .loop .inv .done n (omega arith) }
 pub sums-spec : {M : Type 1} → statement M
 sums-spec =
     tie.close
-    (tie.spec
-    Inv-loop
-    μ-loop
-    array-copy-out-r
-    loop-holds
-    mul-add
-    array-copy-out-add
-    sub-add
-    mul-add-2
-    array-copy-out-add-2
-    add-requires
-    mul-r
-    array-set-from-r
-    add-n
-    loop-less
-    loop-again
-    returns)
+    (tie.spec Inv-loop μ-loop array-copy-out-r loop-holds mul-add array-copy-out-add sub-add mul-add-2 array-copy-out-add-2 add-requires mul-r
+    array-set-from-r add-n loop-less loop-again returns)

@@ -61,20 +61,5 @@ returns c = grid-all (omega arith) (c .before .loop .inv)
 pub transposed-spec : {M : Type 1} → statement M
 transposed-spec =
     tie.close
-    (tie.spec
-    Inv-loop
-    μ-loop
-    only-requires
-    loop-holds
-    mul-r
-    mul-r-2
-    index-1-r
-    index-2-r
-    mul-t19
-    mul-t22
-    index-1-r-2
-    index-2-r-2
-    add-n
-    loop-less
-    loop-again
-    returns)
+    (tie.spec Inv-loop μ-loop only-requires loop-holds mul-r mul-r-2 index-1-r index-2-r mul-t19 mul-t22 index-1-r-2 index-2-r-2 add-n loop-less
+    loop-again returns)
