@@ -14,4 +14,40 @@ use Rattle.films.proofs.Constant.{constant}
 -- each line is computed, but for the blocks whose samples are all the same, of which `constant` speaks
 pub films-hold : Hold films
 unfolding films cosine mul basis-product sum factor factors element root numerator coefficient numbers
-films-hold = (refl, (refl, (refl, (refl, (refl, (refl, (constant (pos 1), (refl, (refl, (refl, (constant (negsuc 2047), (constant (pos 2047), (refl, (refl, (refl, (refl, (refl, (refl, (refl, (refl, (refl, (refl, (refl, (refl, (refl, (refl, (refl, (refl, tt))))))))))))))))))))))))))))
+films-hold = (
+  refl,
+  (
+    refl,
+    (
+      refl,
+      (
+        refl,
+        (
+          refl,
+          (
+            refl,
+            (
+              constant (pos 1),
+              (
+                refl,
+                (
+                  refl,
+                  (
+                    refl,
+                    (
+                      constant (negsuc 2047),
+                      (
+                        constant (pos 2047),
+                        (refl, (refl, (refl, (refl, (refl, (refl, (refl, (refl, (refl, (refl, (refl, (refl, (refl, (refl, (refl, (refl, tt)))))))))))))))),
+                      ),
+                    ),
+                  ),
+                ),
+              ),
+            ),
+          ),
+        ),
+      ),
+    ),
+  ),
+)

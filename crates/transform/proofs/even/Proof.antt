@@ -1,17 +1,15 @@
 -- `even` meets its contract: what its calls ensure is one of the factorised forms of the half-step.
 -- Assumes nothing.
 use mathlib.Core.Path.{ap, ap₂, _∙_}
-use Prim.Native.Nat.{ℕ, _<_}
 use native.Mathlib.Omega.{arith}
 use lib.Dec.{lit<}
 use lib.IntN.{pos}
 use borrow.Author.Needs.{needs}
 use Rattle.ring.specs.Element.{add, subtract, cosine, mul}
-use Rattle.ring.proofs.Components.{Eight}
 use Rattle.dct.proofs.Halves.{even-half}
 use Rattle.elements.specs.Buffer.{entry}
 use Rattle.elements.proofs.Bounds.{within-le}
-use Rattle.transform.proofs.Halves.{room-add, room-subtract, row-4}
+use Rattle.transform.proofs.Halves.{eights, room-add, room-subtract, row-4}
 use Rattle.transform.proofs.even.Statement.{statement}
 use Rattle.transform.proofs.even.Tie as tie
 
@@ -93,18 +91,22 @@ difference-of-products-requires c κs =
 
 returns : tie.Need-returns
 returns c =
-    let start = c .before .before .before .before .before .before .before .before .before .before .before .before .before .before in
+    let c4 = c .before in
+    let c2 = c4 .before .before in
+    let c0 = c2 .before in
+    let cq = c0 .before .before in
+    let start = cq .before .before .before .before .before .before .before .before in
     let x = entry (start .args .t1) in
-    let eights : (n : ℕ) → n < 4 → Eight (x n) = λ n h. record { eight = start .pre .eights n h } in
-    let p0 = c .before .before .before .before .before .before .before .before .before .add .ensures in
-    let p1 = c .before .before .before .before .before .before .before .before .add2 .ensures in
-    let q0 = c .before .before .before .before .before .before .before .subtract .ensures in
-    let q1 = c .before .before .before .before .before .before .subtract2 .ensures in
+    let p0 = cq .before .before .before .add .ensures in
+    let p1 = cq .before .before .add2 .ensures in
+    let q0 = cq .before .subtract .ensures in
+    let q1 = cq .subtract2 .ensures in
     row-4
-    (c .before .before .before .before .times .ensures ∙ ap (mul (cosine (pos 4))) (c .before .before .before .before .before .add3 .ensures ∙ ap₂ add p0 p1) ∙ even-half x eights 0 (lit< tt))
-    (c .before .before .before .sum-of-products .ensures ∙ ap₂ (λ a b. add (mul (cosine (pos 2)) a) (mul (cosine (pos 6)) b)) q0 q1 ∙ even-half x eights 1 (lit< tt))
-    (c .before .times2 .ensures ∙ ap (mul (cosine (pos 4))) (c .before .before .subtract3 .ensures ∙ ap₂ subtract p0 p1) ∙ even-half x eights 2 (lit< tt))
-    (c .difference-of-products .ensures ∙ ap₂ (λ a b. subtract (mul (cosine (pos 6)) a) (mul (cosine (pos 2)) b)) q0 q1 ∙ even-half x eights 3 (lit< tt))
+    (c0 .times .ensures ∙ ap (mul (cosine (pos 4))) (c0 .before .add3 .ensures ∙ ap₂ add p0 p1) ∙ even-half x (eights (start .pre)) 0 (lit< tt))
+    (c2 .sum-of-products .ensures ∙ ap₂ (λ a b. add (mul (cosine (pos 2)) a) (mul (cosine (pos 6)) b)) q0 q1 ∙ even-half x (eights (start .pre)) 1 (lit< tt))
+    (c4 .times2 .ensures ∙ ap (mul (cosine (pos 4))) (c4 .before .subtract3 .ensures ∙ ap₂ subtract p0 p1) ∙ even-half x (eights (start .pre)) 2 (lit< tt))
+    (c .difference-of-products .ensures ∙ ap₂ (λ a b. subtract (mul (cosine (pos 6)) a) (mul (cosine (pos 2)) b)) q0 q1
+    ∙ even-half x (eights (start .pre)) 3 (lit< tt))
 
 pub even-spec : {M : Type 1} → statement M
 even-spec =

@@ -23,10 +23,13 @@ returns-3 c = faulty-sample _ _ (c .before .before .before .if1 .left) (c .befor
 columns-requires : tie.Need-columns-requires
 columns-requires c κs = search needs
 
+-- past the search that `found` ends, every sample is in range
 steps-requires : tie.Need-steps-requires
 steps-requires c κs =
-    let start = c .before .before .before .before .before in
-    let range = all-in-range (start .args .samples .now) (start .args .elements .now) (c .before .before .before .before .if1 .left) (c .before .before .before .if2 .left) _ (c .before .before .first-outside .ensures) (omega arith) in
+    let found = c .before .before in
+    let start = found .before .before .before in
+    let range = all-in-range (start .args .samples .now) (start .args .elements .now) (found .before .before .if1 .left) (found .before .if2 .left) _
+    (found .first-outside .ensures) (omega arith) in
     room-columns range (c .columns .ensures)
 
 transposed-requires : tie.Need-transposed-requires
@@ -34,9 +37,11 @@ transposed-requires c κs = search needs
 
 steps-requires-2 : tie.Need-steps-requires-2
 steps-requires-2 c κs =
-    let start = c .before .before .before .before .before .before .before in
+    let found = c .before .before .before .before in
+    let start = found .before .before .before in
     let x = start .args .samples .now in
-    let range = all-in-range x (start .args .elements .now) (c .before .before .before .before .before .before .if1 .left) (c .before .before .before .before .before .if2 .left) _ (c .before .before .before .before .first-outside .ensures) (omega arith) in
+    let range = all-in-range x (start .args .elements .now) (found .before .before .if1 .left) (found .before .if2 .left) _
+    (found .first-outside .ensures) (omega arith) in
     room-rows range (turned x (c .before .before .columns .ensures) (c .before .steps .ensures) (c .transposed .ensures))
 
 store-requires : tie.Need-store-requires
@@ -47,12 +52,15 @@ same-length c = search needs
 
 returns-4 : tie.Need-returns-4
 returns-4 c =
-    let start = c .before .before .before .before .before .before .before .before .before .before .before in
+    let made = c .before .before .before in
+    let found = made .before .before .before .before .before in
+    let start = found .before .before .before in
     let x = start .args .samples .now in
-    let (answer, left) = no-fault x (start .args .elements .now) (c .before .before .before .before .before .before .before .before .before .before .if1 .left) (c .before .before .before .before .before .before .before .before .before .if2 .left) _ (c .before .before .before .before .before .before .before .before .first-outside .ensures) (omega arith) in (
-      answer,
-      c .before .store .ensures ∙ stored-elements x (c .before .before .before .before .before .before .columns .ensures) (c .before .before .before .before .before .steps .ensures) (c .before .before .before .before .transposed .ensures) (c .before .before .before .steps2 .ensures) ∙ left,
-    )
+    let (answer, left) = no-fault x (start .args .elements .now) (found .before .before .if1 .left) (found .before .if2 .left) _
+    (found .first-outside .ensures) (omega arith) in
+    let elements = stored-elements x (made .before .before .before .columns .ensures) (made .before .before .steps .ensures) (made .before .transposed .ensures)
+    (made .steps2 .ensures) in
+    (answer, c .before .store .ensures ∙ elements ∙ left)
 
 pub forward-spec : {M : Type 1} → statement M
 forward-spec =

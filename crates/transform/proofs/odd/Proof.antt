@@ -1,14 +1,12 @@
 -- `odd` meets its contract: what its calls ensure is one of the factorised forms of the half-step.
 -- Assumes nothing.
 use mathlib.Core.Path.{ap₂, _∙_}
-use Prim.Native.Nat.{ℕ, _<_}
 use lib.Dec.{lit<}
 use borrow.Author.Needs.{needs}
 use Rattle.ring.specs.Element.{add, subtract}
-use Rattle.ring.proofs.Components.{Eight}
 use Rattle.dct.proofs.Halves.{odd-half}
 use Rattle.elements.specs.Buffer.{entry}
-use Rattle.transform.proofs.Halves.{wide, room-times, room-add, room-subtract, row-4}
+use Rattle.transform.proofs.Halves.{eights, wide, room-sum, room-difference, row-4}
 use Rattle.transform.proofs.odd.Statement.{statement}
 use Rattle.transform.proofs.odd.Tie as tie
 
@@ -36,10 +34,9 @@ sum-of-products-requires-2 c κs =
 
 add-requires : tie.Need-add-requires
 add-requires c κs =
-    let room = c .before .before .before .before .before .before .pre in
-    let eights : (n : ℕ) → n < 4 → Eight (entry (c .before .before .before .before .before .before .args .t1) n) = λ n h. record { eight = room .eights n h } in (
-      rw (c .before .sum-of-products .ensures) (room-add 29 (room-times 28 1 (lit< tt) (eights 0 (lit< tt)) (room .within 0 (lit< tt))) (room-times 28 3 (lit< tt) (eights 1 (lit< tt)) (room .within 1 (lit< tt)))),
-      rw (c .sum-of-products2 .ensures) (room-add 29 (room-times 28 5 (lit< tt) (eights 2 (lit< tt)) (room .within 2 (lit< tt))) (room-times 28 7 (lit< tt) (eights 3 (lit< tt)) (room .within 3 (lit< tt)))),
+    let room = c .before .before .before .before .before .before .pre in (
+      rw (c .before .sum-of-products .ensures) (room-sum room 0 1 1 3 tt),
+      rw (c .sum-of-products2 .ensures) (room-sum room 2 5 3 7 tt),
     )
 
 difference-of-products-requires : tie.Need-difference-of-products-requires
@@ -54,10 +51,9 @@ sum-of-products-requires-3 c κs =
 
 subtract-requires : tie.Need-subtract-requires
 subtract-requires c κs =
-    let room = c .before .before .before .before .before .before .before .before .before .pre in
-    let eights : (n : ℕ) → n < 4 → Eight (entry (c .before .before .before .before .before .before .before .before .before .args .t1) n) = λ n h. record { eight = room .eights n h } in (
-      rw (c .before .difference-of-products .ensures) (room-subtract 29 (room-times 28 3 (lit< tt) (eights 0 (lit< tt)) (room .within 0 (lit< tt))) (room-times 28 7 (lit< tt) (eights 1 (lit< tt)) (room .within 1 (lit< tt)))),
-      rw (c .sum-of-products3 .ensures) (room-add 29 (room-times 28 1 (lit< tt) (eights 2 (lit< tt)) (room .within 2 (lit< tt))) (room-times 28 5 (lit< tt) (eights 3 (lit< tt)) (room .within 3 (lit< tt)))),
+    let room = c .before .before .before .before .before .before .before .before .before .pre in (
+      rw (c .before .difference-of-products .ensures) (room-difference room 0 3 1 7 tt),
+      rw (c .sum-of-products3 .ensures) (room-sum room 2 1 3 5 tt),
     )
 
 difference-of-products-requires-2 : tie.Need-difference-of-products-requires-2
@@ -72,10 +68,9 @@ sum-of-products-requires-4 c κs =
 
 add-requires-2 : tie.Need-add-requires-2
 add-requires-2 c κs =
-    let room = c .before .before .before .before .before .before .before .before .before .before .before .before .pre in
-    let eights : (n : ℕ) → n < 4 → Eight (entry (c .before .before .before .before .before .before .before .before .before .before .before .before .args .t1) n) = λ n h. record { eight = room .eights n h } in (
-      rw (c .before .difference-of-products2 .ensures) (room-subtract 29 (room-times 28 5 (lit< tt) (eights 0 (lit< tt)) (room .within 0 (lit< tt))) (room-times 28 1 (lit< tt) (eights 1 (lit< tt)) (room .within 1 (lit< tt)))),
-      rw (c .sum-of-products4 .ensures) (room-add 29 (room-times 28 7 (lit< tt) (eights 2 (lit< tt)) (room .within 2 (lit< tt))) (room-times 28 3 (lit< tt) (eights 3 (lit< tt)) (room .within 3 (lit< tt)))),
+    let room = c .before .before .before .before .before .before .before .before .before .before .before .before .pre in (
+      rw (c .before .difference-of-products2 .ensures) (room-difference room 0 5 1 1 tt),
+      rw (c .sum-of-products4 .ensures) (room-sum room 2 7 3 3 tt),
     )
 
 difference-of-products-requires-3 : tie.Need-difference-of-products-requires-3
@@ -90,22 +85,23 @@ difference-of-products-requires-4 c κs =
 
 add-requires-3 : tie.Need-add-requires-3
 add-requires-3 c κs =
-    let room = c .before .before .before .before .before .before .before .before .before .before .before .before .before .before .before .pre in
-    let eights : (n : ℕ) → n < 4 → Eight (entry (c .before .before .before .before .before .before .before .before .before .before .before .before .before .before .before .args .t1) n) = λ n h. record { eight = room .eights n h } in (
-      rw (c .before .difference-of-products3 .ensures) (room-subtract 29 (room-times 28 7 (lit< tt) (eights 0 (lit< tt)) (room .within 0 (lit< tt))) (room-times 28 5 (lit< tt) (eights 1 (lit< tt)) (room .within 1 (lit< tt)))),
-      rw (c .difference-of-products4 .ensures) (room-subtract 29 (room-times 28 3 (lit< tt) (eights 2 (lit< tt)) (room .within 2 (lit< tt))) (room-times 28 1 (lit< tt) (eights 3 (lit< tt)) (room .within 3 (lit< tt)))),
+    let room = c .before .before .before .before .before .before .before .before .before .before .before .before .before .before .before .pre in (
+      rw (c .before .difference-of-products3 .ensures) (room-difference room 0 7 1 5 tt),
+      rw (c .difference-of-products4 .ensures) (room-difference room 2 3 3 1 tt),
     )
 
 returns : tie.Need-returns
 returns c =
-    let start = c .before .before .before .before .before .before .before .before .before .before .before .before .before .before .before .before in
+    let c5 = c .before .before .before in
+    let c3 = c5 .before .before .before in
+    let c1 = c3 .before .before .before in
+    let start = c1 .before .before .before .before .before .before .before in
     let x = entry (start .args .t1) in
-    let eights : (n : ℕ) → n < 4 → Eight (x n) = λ n h. record { eight = start .pre .eights n h } in
     row-4
-    (c .before .before .before .before .before .before .before .before .before .add .ensures ∙ ap₂ add (c .before .before .before .before .before .before .before .before .before .before .before .sum-of-products .ensures) (c .before .before .before .before .before .before .before .before .before .before .sum-of-products2 .ensures) ∙ odd-half x eights 0 (lit< tt))
-    (c .before .before .before .before .before .before .subtract .ensures ∙ ap₂ subtract (c .before .before .before .before .before .before .before .before .difference-of-products .ensures) (c .before .before .before .before .before .before .before .sum-of-products3 .ensures) ∙ odd-half x eights 1 (lit< tt))
-    (c .before .before .before .add2 .ensures ∙ ap₂ add (c .before .before .before .before .before .difference-of-products2 .ensures) (c .before .before .before .before .sum-of-products4 .ensures) ∙ odd-half x eights 2 (lit< tt))
-    (c .add3 .ensures ∙ ap₂ add (c .before .before .difference-of-products3 .ensures) (c .before .difference-of-products4 .ensures) ∙ odd-half x eights 3 (lit< tt))
+    (c1 .add .ensures ∙ ap₂ add (c1 .before .before .sum-of-products .ensures) (c1 .before .sum-of-products2 .ensures) ∙ odd-half x (eights (start .pre)) 0 (lit< tt))
+    (c3 .subtract .ensures ∙ ap₂ subtract (c3 .before .before .difference-of-products .ensures) (c3 .before .sum-of-products3 .ensures) ∙ odd-half x (eights (start .pre)) 1 (lit< tt))
+    (c5 .add2 .ensures ∙ ap₂ add (c5 .before .before .difference-of-products2 .ensures) (c5 .before .sum-of-products4 .ensures) ∙ odd-half x (eights (start .pre)) 2 (lit< tt))
+    (c .add3 .ensures ∙ ap₂ add (c .before .before .difference-of-products3 .ensures) (c .before .difference-of-products4 .ensures) ∙ odd-half x (eights (start .pre)) 3 (lit< tt))
 
 pub odd-spec : {M : Type 1} → statement M
 odd-spec =
