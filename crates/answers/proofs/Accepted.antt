@@ -8,7 +8,7 @@ use native.Mathlib.Omega.{arith}
 use lib.Dec.{T, ltb, eqb}
 use borrow.Author.Tests.{ne-eqb, le-ltb, ltb-false}
 use Rattle.integers.specs.Search.{first}
-use Rattle.integers.proofs.Search.{Passed, first-none, before-first}
+use Rattle.integers.proofs.Search.{Passed, first-none, before-first, at-first}
 use Rattle.answers.specs.Answer.{Returned, unless, lowest, accepted, written}
 
 -- ---- no cause: the next one is asked
@@ -36,6 +36,11 @@ lowest-accepted size faulty n next h = go (ltb (first size faulty) size) refl h
         → ((i : ℕ) → i < size → faulty i ≡ false) × T (accepted next)
     go true e h = absurd (rw (not-zero n) at h)
     go false e h = ((λ i l. before-first size faulty i (lt-of-lt-of-le l (ltb-false (first size faulty) size e))), h)
+
+-- ---- a refusal has its cause: the place that `lowest` names is faulty, and none below it is
+
+pub lowest-names : (size : ℕ) (faulty : ℕ → Bool) → first size faulty < size → (faulty (first size faulty) ≡ true) × ((i : ℕ) → i < first size faulty → faulty i ≡ false)
+lowest-names size faulty h = (at-first size faulty h, before-first size faulty)
 
 -- ---- what it leaves
 

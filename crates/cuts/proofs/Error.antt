@@ -21,7 +21,7 @@ use Rattle.cuts.proofs.Order.{cross, less-yes}
 use Rattle.cuts.proofs.Below.{below-less-above}
 use Rattle.cuts.proofs.Tables.{under, over, under-below, over-above}
 use Rattle.cuts.proofs.Floor.{rounded-down}
-use Rattle.cuts.proofs.Within.{rising, falling, parts, double, within-all}
+use Rattle.cuts.proofs.Bounds.{rising, falling, parts, double, within-all}
 
 -- ---- rounding adds at most 1/2: y is (N + B)/2B rounded down
 

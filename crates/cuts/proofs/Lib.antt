@@ -1,8 +1,9 @@
 -- What the definitions of fractions, cosines as roots and rounding mean.
+pub mod Roots
 pub mod Order
 pub mod Below
 pub mod Tables
 pub mod Floor
-pub mod Within
+pub mod Bounds
 pub mod Error
 pub mod Some

@@ -23,7 +23,7 @@ c2 = root-2-plus c4
 abbrev c6 : Root
 c6 = root-2-minus c4
 
--- c_k, for k from 1 to 7
+-- c_k, for k from 1 to 7; no other k is meant
 unfoldable pub root : ℕ → Root
 root k = getD (root-2-plus c2 ∷ c2 ∷ root-2-plus c6 ∷ c4 ∷ root-2-minus c6 ∷ c6 ∷ root-2-minus c2 ∷ []) (k - 1) c4
 

@@ -31,6 +31,6 @@ numerator b m u = pos (2 ^ b) *ℤ component u 0 +ℤ sum (pos 0) _+ℤ_ 7 (λ k
 unfoldable pub coefficient : ℕ → List ℤ → List ℤ → ℤ
 coefficient b m u = shrZ (numerator b m u +ℤ pos (2 ^ b)) (2 ^ (b + 1))
 
--- the distance that 01 promises, 1/2 + E/2^b, for a limit 4·E of the magnitudes' sum
+-- the distance of demand 3, 1/2 + E/2^b, for a limit 4·E of the magnitudes' sum
 abbrev pub distance : ℕ → ℕ → Fraction
 distance E b = plus (record { upper = pos 1; lower = 2; positive = lit< tt }) (over-power (pos E) b)

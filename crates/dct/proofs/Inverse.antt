@@ -13,15 +13,15 @@ use Rattle.ring.specs.Element.{component, add, scale, number, mul}
 use Rattle.ring.proofs.Linear.{elements, linear-sum, linear-scale}
 use Rattle.ring.proofs.Product.{mul-left}
 use Rattle.ring.proofs.Ring.{scale-number}
-use Rattle.dct.specs.Inverse.{returned, gram, delta}
+use Rattle.dct.specs.Inverse.{summed-back, gram, delta}
 use Rattle.dct.specs.Transform.{factors, element}
 use Rattle.dct.proofs.Factors.{some-sample}
 use Rattle.dct.proofs.Orthogonal.{delta-same, delta-other, orthogonal}
 
 -- each sample, times what the factors of its place and of place r give
-returned-samples : (d : ℕ) (x : ℕ → ℤ) (r : ℕ) → returned d (element d x) r ≡ sum [] add (8 ^ d) (λ q. scale (x q) (gram d q r))
-unfolding returned element gram
-returned-samples d x r =
+summed-back-samples : (d : ℕ) (x : ℕ → ℤ) (r : ℕ) → summed-back d (element d x) r ≡ sum [] add (8 ^ d) (λ q. scale (x q) (gram d q r))
+unfolding summed-back element gram
+summed-back-samples d x r =
     sum-cong [] add n _ (λ p. sum [] add n (term p)) (λ p h. by-samples p) ∙ sum-swap [] add elements n n term
     ∙ sum-cong [] add n _ _ (λ q h. sym (linear-sum (scale (x q)) (linear-scale (x q)) n (λ p. mul (factors d p q) (factors d p r))))
   where
@@ -36,9 +36,9 @@ returned-samples d x r =
         linear-sum (λ a. mul a (factors d p r)) (mul-left (factors d p r)) n (λ q. scale (x q) (factors d p q))
         ∙ sum-cong [] add n _ _ (λ q h. mul-left (factors d p r) .multiples (x q) (factors d p q))
 
-pub inverse : (d : ℕ) (x : ℕ → ℤ) (r : ℕ) → r < 8 ^ d → returned d (element d x) r ≡ number (pos (16 ^ d) *ℤ x r)
+pub inverse : (d : ℕ) (x : ℕ → ℤ) (r : ℕ) → r < 8 ^ d → summed-back d (element d x) r ≡ number (pos (16 ^ d) *ℤ x r)
 inverse d x r h =
-    returned-samples d x r
+    summed-back-samples d x r
     ∙ sum-cong [] add (8 ^ d) _ (λ q. number (term q)) (λ q k. ap (scale (x q)) (orthogonal d q r k h) ∙ scale-number (x q) (delta d q r))
     ∙ sym (sum-map-some (pos 0) _+ℤ_ integers [] add elements number (λ a b. refl) (8 ^ d) term (some-sample d))
     ∙ ap number (sum-only (pos 0) _+ℤ_ integers (8 ^ d) term r h (λ q k n. ap (λ z. x q *ℤ z) (delta-other d q r n) ∙ *ℤ-zero (x q)) ∙ at-r)
@@ -51,8 +51,8 @@ inverse d x r h =
 
 -- two blocks with the same elements are the same block
 pub unique : (d : ℕ) (x y : ℕ → ℤ) → ((p : ℕ) → p < 8 ^ d → element d x p ≡ element d y p) → (r : ℕ) → r < 8 ^ d → x r ≡ y r
-unfolding returned
+unfolding summed-back
 unique d x y e r h = *ℤ-cancel (one-le-pow d 16 (zero-lt-suc 15)) (ap (λ a. component a 0) (sym (inverse d x r h) ∙ same ∙ inverse d y r h))
   where
-    same : returned d (element d x) r ≡ returned d (element d y) r
+    same : summed-back d (element d x) r ≡ summed-back d (element d y) r
     same = sum-cong [] add (8 ^ d) _ _ (λ p k. ap (λ a. mul a (factors d p r)) (e p k))

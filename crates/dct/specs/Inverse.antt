@@ -9,8 +9,8 @@ use Rattle.ring.specs.Element.{add, mul}
 use Rattle.dct.specs.Transform.{factors}
 
 -- the sum over all indices p of element e p × its factors at place r
-unfoldable pub returned : ℕ → (ℕ → List ℤ) → ℕ → List ℤ
-returned d e r = sum [] add (8 ^ d) (λ p. mul (e p) (factors d p r))
+unfoldable pub summed-back : ℕ → (ℕ → List ℤ) → ℕ → List ℤ
+summed-back d e r = sum [] add (8 ^ d) (λ p. mul (e p) (factors d p r))
 
 -- the sum over all indices p of the factors at place q × the factors at place r: the entries of the factors' Gram matrix
 unfoldable pub gram : ℕ → ℕ → ℕ → List ℤ

@@ -1,32 +1,38 @@
--- The limits that 01 sets for blocks of 8 by 8 ("Why a set or sheet is turned back", 1, 2 and 4; demand 3's distance). Laws take them as
--- parameters; this is the one place where they are numbers.
+-- The limits that 01 sets for blocks of 8 by 8 ("Why a set or sheet is turned back", 1, 2 and 4), and the distance of demand 3. The laws
+-- of the transform and of rounding's error take them as parameters; for the definitions of the jobs this is the one place of each number.
 use mathlib.Core.Bool.{Bool, _&&_}
-use Prim.Native.Nat.{ℕ}
+use Prim.Native.Nat.{ℕ, _*_, _/_, _^_}
 use lib.IntN.{ℤ, pos, negℤ}
 use lib.Signed.{leZ, ltZ}
 
--- the dimensions of a block, and so its 64 samples, elements and coefficients, and the 512 components of its elements
+-- the dimensions of a block
 abbrev pub dimensions : ℕ
 dimensions = 2
 
-abbrev pub samples-size : ℕ
-samples-size = 64
+-- its 64 places, each of a sample, an element and a coefficient
+abbrev pub places : ℕ
+places = 8 ^ dimensions
 
+-- the 512 components of all its elements
 abbrev pub components-size : ℕ
-components-size = 512
+components-size = 8 * places
 
 -- the largest magnitude of a sample, which lies in -2048 to 2047
 abbrev pub sample-limit : ℕ
 sample-limit = 2048
 
+-- x lies in -S to S - 1
+abbrev pub in-signed-range : ℕ → ℤ → Bool
+in-signed-range S x = leZ (negℤ (pos S)) x && ltZ x (pos S)
+
 -- a sample is in range
 abbrev pub in-range : ℤ → Bool
-in-range x = leZ (negℤ (pos sample-limit)) x && ltZ x (pos sample-limit)
+in-range x = in-signed-range sample-limit x
 
 -- the largest sum of the magnitudes of an element's components
 abbrev pub magnitudes-limit : ℕ
 magnitudes-limit = 262144
 
--- the 65,536 in the distance of rounding, 1/2 + 65,536/2^b
-abbrev pub error-limit : ℕ
-error-limit = 65536
+-- the 65,536 of demand 3's distance, 1/2 + 65,536/2^b: a quarter of that limit
+abbrev pub distance-numerator : ℕ
+distance-numerator = magnitudes-limit / 4

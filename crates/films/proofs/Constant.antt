@@ -18,11 +18,11 @@ use Rattle.ring.specs.Element.{component, add, scale, number, cosine, basis-pro
 use Rattle.ring.proofs.Linear.{linear-sum, linear-scale}
 use Rattle.ring.proofs.Product.{mul-left, mul-right}
 use Rattle.ring.proofs.Ring.{scale-number}
-use Rattle.dct.specs.Limits.{samples-size, components-size}
+use Rattle.dct.specs.Limits.{places, components-size}
 use Rattle.dct.specs.Transform.{factor, element, double-sum}
 use Rattle.dct.proofs.Dimensions.{element-double-sum}
 use Rattle.transform.specs.Forward.{sample, elements-of}
-use Rattle.films.specs.Films.{all, first}
+use Rattle.films.specs.Films.{all, at-corner}
 
 -- the sum of the factors of a frequency
 factor-sum : ℕ → List ℤ
@@ -57,9 +57,9 @@ unfolding double-sum
 samples-constant z u v = sum-cong [] add 8 _ _ (λ i h. sum-cong [] add 8 _ _ (λ j l. ap (λ s. scale s (mul (factor u i) (factor v j))) (at i j h l)))
   where
     at : (i j : ℕ) → i < 8 → j < 8 → sample (all z) (8 * i + j) ≡ z
-    at i j h l = getD-table samples-size (λ n. z) (pos 0) (8 * i + j) (omega arith)
+    at i j h l = getD-table places (λ n. z) (pos 0) (8 * i + j) (omega arith)
 
-element-constant : (z : ℤ) (p : ℕ) → p < samples-size → element 2 (sample (all z)) p ≡ number (z *ℤ corner p)
+element-constant : (z : ℤ) (p : ℕ) → p < places → element 2 (sample (all z)) p ≡ number (z *ℤ corner p)
 element-constant z p h =
     ap (λ (n : ℕ). element 2 (sample (all z)) n) (sym split) ∙ element-double-sum (sample (all z)) (p / 8) (p % 8) (omega arith) (omega arith)
     ∙ samples-constant z (p / 8) (p % 8) ∙ double-sum-constant z (p / 8) (p % 8)
@@ -86,7 +86,7 @@ corner-component z i = component-number (z *ℤ corner (i / 8)) (i % 8) (omega a
     go (no p) q = rw (ne-eqb (i % 8) 0 p) (other (λ e. p (omega arith)))
 
 -- u_0 at (0,0) is 128·z, and all else is 0
-pub constant : (z : ℤ) → elements-of (all z) ≡ first (z *ℤ pos 128)
+pub constant : (z : ℤ) → elements-of (all z) ≡ at-corner (z *ℤ pos 128)
 unfolding elements-of
 constant z =
     is-table (pos 0) (table components-size f) components-size (λ i. cond (eqb i 0) (z *ℤ pos 128) (pos 0)) (length-table components-size f)

@@ -7,7 +7,7 @@ use lib.Dec.{eqb, lit<}
 use lib.IntN.{ℤ, pos, negsuc}
 use Rattle.integers.specs.Table.{table}
 use Rattle.ring.specs.Element.{add, subtract, number, only, cosine, mul}
-use Rattle.dct.specs.Limits.{dimensions, samples-size, components-size}
+use Rattle.dct.specs.Limits.{dimensions, places, components-size}
 use Rattle.dct.specs.Transform.{element}
 use Rattle.cuts.specs.Fraction.{Fraction}
 use Rattle.cuts.specs.Root.{root, below, above}
@@ -35,15 +35,15 @@ thousandths n = record { upper = pos n; lower = 1000; positive = lit< tt }
 
 -- all samples z
 abbrev pub all : ℤ → List ℤ
-all z = table samples-size (λ i. z)
+all z = table places (λ i. z)
 
 -- sample (0,0) is 1, the others 0
 abbrev one : List ℤ
-one = table samples-size (λ i. cond (eqb i 0) (pos 1) (pos 0))
+one = table places (λ i. cond (eqb i 0) (pos 1) (pos 0))
 
 -- u_0 at (0,0) is z, all else 0
-abbrev pub first : ℤ → List ℤ
-first z = table components-size (λ i. cond (eqb i 0) z (pos 0))
+abbrev pub at-corner : ℤ → List ℤ
+at-corner z = table components-size (λ i. cond (eqb i 0) z (pos 0))
 
 -- the exact element of a block at (u,v)
 abbrev at : List ℤ → ℕ → ℕ → List ℤ
@@ -69,13 +69,13 @@ films =
     ∷ (truth (below (root 4) (thousandths 1414)) is truth true)
     ∷ (truth (above (root 4) (thousandths 1415)) is truth true)
     -- all samples 1: u_0 at (0,0) is 128, all else 0, coefficient 64
-    ∷ (elements-of (all (pos 1)) is first (pos 128))
+    ∷ (elements-of (all (pos 1)) is at-corner (pos 128))
     ∷ (rounded 11 (at (all (pos 1)) 0 0) is alone (pos 64))
     ∷ (rounded 20 (at (all (pos 1)) 0 0) is alone (pos 64))
     ∷ (rounded 26 (at (all (pos 1)) 0 0) is alone (pos 64))
     -- all -2048: u_0 is -262,144, coefficient -131,072; all 2047: 262,016 and 131,008
-    ∷ (elements-of (all (negsuc 2047)) is first (negsuc 262143))
-    ∷ (elements-of (all (pos 2047)) is first (pos 262016))
+    ∷ (elements-of (all (negsuc 2047)) is at-corner (negsuc 262143))
+    ∷ (elements-of (all (pos 2047)) is at-corner (pos 262016))
     ∷ (rounded 11 (at (all (negsuc 2047)) 0 0) is alone (negsuc 131071))
     ∷ (rounded 20 (at (all (negsuc 2047)) 0 0) is alone (negsuc 131071))
     ∷ (rounded 26 (at (all (negsuc 2047)) 0 0) is alone (negsuc 131071))

@@ -54,3 +54,14 @@ before-first (suc n) f k h = go (f zero) refl k h (before-first n (λ k. f (suc 
     go true e k h rest = absurd (not-suc-le-zero (rw e at h))
     go false e zero h rest = e
     go false e (suc k) h rest = let l : suc k < suc (first n (λ k. f (suc k))) = rw e at h in rest k (omega arith)
+
+-- and the first one does, where there is one
+pub at-first : (n : ℕ) (f : ℕ → Bool) → first n f < n → f (first n f) ≡ true
+unfolding first
+at-first zero f h = absurd (not-suc-le-zero h)
+at-first (suc n) f h = go (f zero) refl h (at-first n (λ k. f (suc k)))
+  where
+    go : (t : Bool) → f zero ≡ t → cond (f zero) zero (suc (first n (λ k. f (suc k)))) < suc n
+        → (first n (λ k. f (suc k)) < n → f (suc (first n (λ k. f (suc k)))) ≡ true) → f (cond (f zero) zero (suc (first n (λ k. f (suc k))))) ≡ true
+    go true e h rest = rw e e
+    go false e h rest = let l : suc (first n (λ k. f (suc k))) < suc n = rw e at h in rw e (rest (omega arith))

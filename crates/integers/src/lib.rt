@@ -1,4 +1,5 @@
-// The sum and the difference of two numbers, as functions: a store of one into an array then asks only that it fits.
+// The sum and the difference of two numbers, as functions: a store of one into an array then asks only that it fits. And the magnitude of a
+// number, which no i32 need hold.
 ghost use mathlib.Core.Path.{_≡_};
 ghost use lib.IntN.{_+ℤ_, _-ℤ_, natAbs};
 ghost use mir.Val.{SFits};

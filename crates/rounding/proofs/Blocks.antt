@@ -1,32 +1,62 @@
--- A block's set, the elements that forward writes for a block in range, is accepted by rounding.
+-- Which calls rounding accepts: those with an accepted set, a buffer of 64 coefficients and one of the three widths. A block's set, the
+-- elements that forward writes for a block in range, is one.
 -- Assumes nothing.
 use mathlib.Core.Path.{_≡_}
+use mathlib.Core.Bool.{_&&_}
 use mathlib.Core.List.{List}
 use Prim.Native.Nat.{ℕ}
-use lib.Dec.{T}
+use lib.Dec.{T, eqb, eqb→eq}
 use lib.IntN.{ℤ}
 use lib.ListN.{length}
-use borrow.Author.Tests.{le-ltb, eq-eqb}
+use mir.Facts.{and-yes}
+use borrow.Author.Tests.{le-ltb, ltb-false, eq-eqb}
 use Rattle.ring.specs.Element.{magnitudes}
-use Rattle.dct.specs.Limits.{samples-size, components-size, magnitudes-limit}
+use Rattle.dct.specs.Limits.{places, components-size, magnitudes-limit}
+use Rattle.answers.specs.Answer.{unless, lowest, accept, accepted}
+use Rattle.answers.proofs.Accepted.{unless-passes, lowest-passes, unless-accepted, lowest-accepted}
 use Rattle.elements.specs.Buffer.{element-at}
-use Rattle.answers.specs.Answer.{accept, accepted}
-use Rattle.answers.proofs.Accepted.{unless-passes, lowest-passes}
 use Rattle.transform.specs.Forward.{elements-of, forward-returned, forward-elements}
 use Rattle.transform.proofs.Range.{AllInRange}
-use Rattle.transform.proofs.Meaning.{length-elements, magnitudes-place}
 use Rattle.transform.proofs.Refusals.{accepted-means, accepted-leaves}
+use Rattle.transform.proofs.Meaning.{length-elements, magnitudes-of}
+use Rattle.rounding.specs.Asked.{Ready}
 use Rattle.rounding.specs.Rounding.{round-returned}
 use Rattle.rounding.specs.Tables.{width}
-use Rattle.rounding.proofs.Causes.{above}
+use Rattle.rounding.proofs.Causes.{above-limit}
 
-pub block-accepted : (x : List ℤ) → AllInRange x → (b : ℕ) → T (width b) → (c : List ℤ) → length c ≡ samples-size → round-returned (elements-of x) b c ≡ accept
+pub accepts : {e : List ℤ} {b : ℕ} {c : List ℤ} → Ready e b c → round-returned e b c ≡ accept
 unfolding round-returned
+accepts {e} {b} {c} R =
+    rw (
+      eq-eqb (length e) components-size (R .elements-length),
+      eq-eqb (length c) places (R .coefficients-length),
+      unless-passes (width b) 3 _ (R .ready-width),
+    )
+    (lowest-passes places (above-limit e) 4 accept (λ p h. le-ltb magnitudes-limit (magnitudes (element-at e p)) (R .ready-limit p h)))
+
+-- and no other call is
+pub accepted-ready : (e : List ℤ) (b : ℕ) (c : List ℤ) → T (accepted (round-returned e b c)) → Ready e b c
+unfolding round-returned
+accepted-ready e b c h =
+    let lengths = eqb (length e) components-size && eqb (length c) places in
+    let (both, rest) = unless-accepted lengths 0 (unless (width b) 3 (lowest places (above-limit e) 4 accept)) h in
+    let (s, t) = and-yes (eqb (length e) components-size) (eqb (length c) places) both in
+    let (w, last) = unless-accepted (width b) 2 (lowest places (above-limit e) 4 accept) rest in
+    let (none, done) = lowest-accepted places (above-limit e) 3 accept last in
+    record {
+      elements-length = eqb→eq (length e) components-size s;
+      coefficients-length = eqb→eq (length c) places t;
+      ready-width = w;
+      ready-limit = λ p l. ltb-false magnitudes-limit _ (none p l);
+    }
+
+-- ---- blocks' sets
+
+pub block-accepted : (x : List ℤ) → AllInRange x → (b : ℕ) → T (width b) → (c : List ℤ) → length c ≡ places → round-returned (elements-of x) b c ≡ accept
 block-accepted x range b w c l =
-    rw (eq-eqb (length (elements-of x)) components-size (length-elements x), eq-eqb (length c) samples-size l, unless-passes (width b) 3 _ w)
-    (lowest-passes samples-size (above (elements-of x)) 4 accept (λ p h. le-ltb magnitudes-limit (magnitudes (element-at (elements-of x) p)) (magnitudes-place x range p h)))
+    accepts (record { elements-length = length-elements x; coefficients-length = l; ready-width = w; ready-limit = magnitudes-of x range })
 
 -- what an accepted call of forward leaves
-pub set-accepted : (x e : List ℤ) → T (accepted (forward-returned x e)) → (b : ℕ) → T (width b) → (c : List ℤ) → length c ≡ samples-size
+pub set-accepted : (x e : List ℤ) → T (accepted (forward-returned x e)) → (b : ℕ) → T (width b) → (c : List ℤ) → length c ≡ places
     → round-returned (forward-elements x e) b c ≡ accept
 set-accepted x e h b w c l = rw (accepted-leaves x e h) (block-accepted x (accepted-means x e h .2) b w c l)

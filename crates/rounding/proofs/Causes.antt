@@ -14,7 +14,7 @@ use Rattle.integers.specs.Table.{table}
 use Rattle.integers.proofs.Search.{before-first}
 use Rattle.integers.proofs.Tables.{getD-table}
 use Rattle.ring.specs.Element.{magnitudes}
-use Rattle.dct.specs.Limits.{samples-size, components-size, magnitudes-limit, error-limit}
+use Rattle.dct.specs.Limits.{places, components-size, magnitudes-limit, distance-numerator}
 use Rattle.cuts.specs.Width.{coefficient}
 use Rattle.cuts.proofs.Error.{near}
 use Rattle.elements.specs.Buffer.{element-at}
@@ -25,21 +25,21 @@ use Rattle.rounding.specs.Tables.{width, numbers}
 use Rattle.rounding.proofs.Tables.{tables}
 
 -- cause 4 at the element of number p
-abbrev pub above : List ℤ → ℕ → Bool
-above elements p = ltb magnitudes-limit (magnitudes (element-at elements p))
+abbrev pub above-limit : List ℤ → ℕ → Bool
+above-limit elements p = ltb magnitudes-limit (magnitudes (element-at elements p))
 
 -- r is the sum that the code finds
 module _ (elements : List ℤ) (p : ℕ) {r : ℕ} (e : r ≡ magnitudes (element-at elements p)) where
-  pub above-yes : magnitudes-limit < r → above elements p ≡ true
+  pub above-yes : magnitudes-limit < r → above-limit elements p ≡ true
   above-yes h = rw (← e) (lt-ltb magnitudes-limit r h)
 
-  pub above-no : r ≤ magnitudes-limit → above elements p ≡ false
+  pub above-no : r ≤ magnitudes-limit → above-limit elements p ≡ false
   above-no h = rw (← e) (le-ltb magnitudes-limit r h)
 
 module _ (elements : List ℤ) (b : ℕ) (coefficients : List ℤ) where
   -- the 64 numbers of the formula
   abbrev formula : List ℤ
-  formula = table samples-size (λ p. coefficient b (numbers b) (element-at elements p))
+  formula = table places (λ p. coefficient b (numbers b) (element-at elements p))
 
   -- what `round` promises of the answer r and of the coefficients that it leaves
   abbrev Promised : Returned → List ℤ → Type 0
@@ -56,45 +56,45 @@ module _ (elements : List ℤ) (b : ℕ) (coefficients : List ℤ) where
   unfolding round-returned
   refused-elements h = refused 1 0 refl (rw (ne-eqb (length elements) components-size h))
 
-  pub refused-coefficients : length elements ≡ components-size → (length coefficients ≡ samples-size → ⊥)
+  pub refused-coefficients : length elements ≡ components-size → (length coefficients ≡ places → ⊥)
       → Promised (record { number = 1; place = 0 }) coefficients
   unfolding round-returned
-  refused-coefficients l h = refused 1 0 refl (rw (eq-eqb (length elements) components-size l, ne-eqb (length coefficients) samples-size h))
+  refused-coefficients l h = refused 1 0 refl (rw (eq-eqb (length elements) components-size l, ne-eqb (length coefficients) places h))
 
   -- with both lengths right, r is what `is_width` answers
-  module _ (l : length elements ≡ components-size) (k : length coefficients ≡ samples-size) {r : Bool} (e : r ≡ width b) where
+  module _ (l : length elements ≡ components-size) (k : length coefficients ≡ places) {r : Bool} (e : r ≡ width b) where
     pub refused-width : not r ≡ true → Promised (record { number = 3; place = 0 }) coefficients
     unfolding round-returned
     refused-width t =
-        refused 3 0 refl (rw (eq-eqb (length elements) components-size l, eq-eqb (length coefficients) samples-size k, ← e, not-true r t))
+        refused 3 0 refl (rw (eq-eqb (length elements) components-size l, eq-eqb (length coefficients) places k, ← e, not-true r t))
 
     -- at a width, p is what the search answers
-    module _ (t : not r ≡ false) {p : ℕ} (f : p ≡ first samples-size (above elements)) where
-      past-width : round-returned elements b coefficients ≡ lowest samples-size (above elements) 4 accept
+    module _ (t : not r ≡ false) {p : ℕ} (f : p ≡ first places (above-limit elements)) where
+      past-width : round-returned elements b coefficients ≡ lowest places (above-limit elements) 4 accept
       unfolding round-returned
-      past-width = rw (eq-eqb (length elements) components-size l, eq-eqb (length coefficients) samples-size k, ← e, not-false r t)
+      past-width = rw (eq-eqb (length elements) components-size l, eq-eqb (length coefficients) places k, ← e, not-false r t)
 
-      pub refused-magnitudes : p < samples-size → Promised (record { number = 4; place = p }) coefficients
-      refused-magnitudes h = refused 4 p refl (past-width ∙ rw (← f, lt-ltb p samples-size h))
+      pub refused-magnitudes : p < places → Promised (record { number = 4; place = p }) coefficients
+      refused-magnitudes h = refused 4 p refl (past-width ∙ rw (← f, lt-ltb p places h))
 
       -- and no element is above the limit
-      module _ (none : samples-size ≤ p) where
+      module _ (none : places ≤ p) where
         pub ready : Ready elements b coefficients
         ready = record {
           elements-length = l;
           coefficients-length = k;
           ready-width = rw (← e, not-false r t) tt;
-          ready-limit = λ i h. ltb-false magnitudes-limit _ (before-first samples-size (above elements) i (rw (← f) (lt-of-lt-of-le h none)));
+          ready-limit = λ i h. ltb-false magnitudes-limit _ (before-first places (above-limit elements) i (rw (← f) (lt-of-lt-of-le h none)));
         }
 
         all-near : AllNear elements b formula
         all-near = record {
-          near = λ i h. rw (getD-table samples-size (λ p. coefficient b (numbers b) (element-at elements p)) (pos 0) i h)
-              (near b error-limit (numbers b) (element-at elements i) (tables b (ready .ready-width)) (ready .ready-limit i h));
+          near = λ i h. rw (getD-table places (λ p. coefficient b (numbers b) (element-at elements p)) (pos 0) i h)
+              (near b distance-numerator (numbers b) (element-at elements i) (tables b (ready .ready-width)) (ready .ready-limit i h));
         }
 
         answer : round-returned elements b coefficients ≡ accept
-        answer = past-width ∙ rw (← f, le-ltb p samples-size none)
+        answer = past-width ∙ rw (← f, le-ltb p places none)
 
         pub accepted-call : {left : List ℤ} → left ≡ formula → Promised accept left
         unfolding round-coefficients

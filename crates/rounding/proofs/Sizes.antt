@@ -42,13 +42,17 @@ partial-all b m u = refl
 
 -- ---- what the code knows of its operands
 
-pub record Bounded (b : ℕ) (m u : List ℤ) : Type 0 where
+-- what no sum of products exceeds, at the largest width
+abbrev pub largest : ℕ
+largest = 2 ^ 27 * magnitudes-limit
+
+pub record Sized (b : ℕ) (m u : List ℤ) : Type 0 where
   pub width-bound : b ≤ 26
   pub number-bound : (k : ℕ) → k < 7 → natAbs (component m k) ≤ 2 ^ (b + 1)
   pub magnitudes-bound : magnitudes u ≤ magnitudes-limit
 
-pub bounded : {b : ℕ} {m u : List ℤ} → Allowed b m u → Bounded b m u
-bounded {b} A =
+pub sized : {b : ℕ} {m u : List ℤ} → Allowed b m u → Sized b m u
+sized {b} A =
     record {
       width-bound = width-small b (A .at-width);
       number-bound = λ k h. rw (A .are-numbers) (number-small b (A .at-width) k h);
@@ -63,12 +67,12 @@ mag-shr-le : (z : ℤ) (P : ℕ) {n : ℕ} → natAbs z ≤ P * n → mag (shrZ 
 mag-shr-le (pos a) P h = div-le-of-le-mul P h
 mag-shr-le (negsuc a) P h = div-le-of-le-mul P (omega arith)
 
-module _ {b : ℕ} {m u : List ℤ} (B : Bounded b m u) where
+module _ {b : ℕ} {m u : List ℤ} (B : Sized b m u) where
   power-le : 2 ^ (b + 1) ≤ 2 ^ 27
   power-le = let h : b + 1 ≤ 27 = omega (arith, B .width-bound) in pow-mono h
 
   -- 2^(b+1) times the magnitudes of the first n components, which no sum of n terms exceeds
-  scaled-sizes-le : (n : ℕ) → 2 ^ (b + 1) * sizes u n ≤ 2 ^ 45
+  scaled-sizes-le : (n : ℕ) → 2 ^ (b + 1) * sizes u n ≤ largest
   scaled-sizes-le n = mul-le-mul power-le (le-trans (sizes-le n u) (B .magnitudes-bound))
 
   term-le : (k : ℕ) → k < 7 → natAbs (component m k *ℤ component u (suc k)) ≤ 2 ^ (b + 1) * natAbs (component u (suc k))
@@ -81,10 +85,10 @@ module _ {b : ℕ} {m u : List ℤ} (B : Bounded b m u) where
       rw (partial-more b m u n, mul-add)
       (omega (arith, natAbs-add (partial b m u n) (component m n *ℤ component u (suc n)), partial-le n (omega arith), term-le n (omega arith)))
 
-  pub partial-small : (n : ℕ) → n ≤ 7 → natAbs (partial b m u n) ≤ 2 ^ 45
+  pub partial-small : (n : ℕ) → n ≤ 7 → natAbs (partial b m u n) ≤ largest
   partial-small n h = le-trans (partial-le n h) (scaled-sizes-le (suc n))
 
-  pub term-small : (k : ℕ) → k < 7 → natAbs (component m k *ℤ component u (suc k)) ≤ 2 ^ 45
+  pub term-small : (k : ℕ) → k < 7 → natAbs (component m k *ℤ component u (suc k)) ≤ largest
   unfolding sum
   term-small k h = le-trans (term-le k h) (le-trans (mul-le-mul-left (2 ^ (b + 1)) (omega arith)) (scaled-sizes-le (suc (suc k))))
 
@@ -104,8 +108,8 @@ module _ {b : ℕ} {m u : List ℤ} (B : Bounded b m u) where
       let p : 2 ^ b ≤ 2 ^ (b + 1) = pow-mono (omega arith) in
       omega (arith, natAbs-add N (pos (2 ^ b)))
 
-  pub rounded-small : natAbs (numerator b m u +ℤ pos (2 ^ b)) ≤ 2 ^ 46
-  rounded-small = le-trans rounded-le (mul-le-mul {m₂ = 2 ^ 19} power-le (lit≤ tt))
+  pub rounded-small : natAbs (numerator b m u +ℤ pos (2 ^ b)) ≤ 2 ^ 27 * (magnitudes-limit + 1)
+  rounded-small = le-trans rounded-le (mul-le-mul-right (magnitudes-limit + 1) power-le)
 
   pub coefficient-fits : SFits w32 (coefficient b m u)
   unfolding coefficient

@@ -17,7 +17,7 @@ use Rattle.integers.proofs.Magnitudes.{small-fits}
 use Rattle.integers.proofs.Signed.{kept}
 use Rattle.ring.specs.Element.{component}
 use Rattle.cuts.specs.Width.{numerator, coefficient}
-use Rattle.rounding.proofs.Sizes.{Bounded, partial, partial-none, partial-more, partial-all}
+use Rattle.rounding.proofs.Sizes.{largest, Sized, partial, partial-none, partial-more, partial-all}
 use Rattle.rounding.proofs.Sizes.{partial-small, term-small, number-less, component-small, rounded-small, coefficient-fits}
 
 -- a number as it is read back from the bits of an i32 and of an i64
@@ -29,9 +29,9 @@ in64 z = toZ w64 (ofZ w64 z)
 
 -- s + x·y is v, and the product and the sum fit
 pub record Step (s x y v : ℤ) : Type 0 where
-  pub product-small : natAbs (x *ℤ y) ≤ 2 ^ 45
+  pub product-small : natAbs (x *ℤ y) ≤ largest
   pub value : s +ℤ x *ℤ y ≡ v
-  pub value-small : natAbs v ≤ 2 ^ 45
+  pub value-small : natAbs v ≤ largest
 
 module _ {s x y v : ℤ} (S : Step s x y v) where
   pub step-fits : SFits w64 (x *ℤ y) × SFits w64 (s +ℤ x *ℤ y)
@@ -44,7 +44,7 @@ module _ {s x y v : ℤ} (S : Step s x y v) where
   pub step-kept : {r : ℤ} → r ≡ s +ℤ x *ℤ y → in64 r ≡ v
   step-kept e = rw (e, S .value) (kept w64 v (lt-of-le-of-lt (S .value-small) (lit< tt)))
 
-module _ {b : ℕ} {m u : List ℤ} (B : Bounded b m u) where
+module _ {b : ℕ} {m u : List ℤ} (B : Sized b m u) where
   read : (k : ℕ) → in32 (component u k) ≡ component u k
   read k = kept w32 (component u k) (lt-of-le-of-lt (component-small B k) (lit< tt))
 

@@ -6,7 +6,7 @@ use lib.Dec.{T}
 use lib.IntN.{ℤ}
 use lib.ListN.{length}
 use Rattle.ring.specs.Element.{magnitudes}
-use Rattle.dct.specs.Limits.{samples-size, components-size, magnitudes-limit}
+use Rattle.dct.specs.Limits.{places, components-size, magnitudes-limit}
 use Rattle.elements.specs.Buffer.{element-at}
 use Rattle.rounding.specs.Tables.{width, numbers}
 
@@ -19,6 +19,6 @@ pub record Allowed (b : ℕ) (m u : List ℤ) : Type 0 where
 -- for all 64
 pub record Ready (elements : List ℤ) (b : ℕ) (coefficients : List ℤ) : Type 0 where
   pub elements-length : length elements ≡ components-size
-  pub coefficients-length : length coefficients ≡ samples-size
+  pub coefficients-length : length coefficients ≡ places
   pub ready-width : T (width b)
-  pub ready-limit : (p : ℕ) → p < samples-size → magnitudes (element-at elements p) ≤ magnitudes-limit
+  pub ready-limit : (p : ℕ) → p < places → magnitudes (element-at elements p) ≤ magnitudes-limit

@@ -7,7 +7,7 @@ use lib.IntN.{ℤ, pos}
 use lib.ListN.{length, getD}
 use Rattle.integers.specs.Table.{table}
 use Rattle.ring.specs.Element.{magnitudes}
-use Rattle.dct.specs.Limits.{samples-size, components-size, magnitudes-limit, error-limit}
+use Rattle.dct.specs.Limits.{places, components-size, magnitudes-limit, distance-numerator}
 use Rattle.cuts.specs.Value.{Near}
 use Rattle.cuts.specs.Width.{coefficient, distance}
 use Rattle.elements.specs.Buffer.{element-at}
@@ -17,15 +17,15 @@ use Rattle.rounding.specs.Tables.{width, numbers}
 -- causes 1, 3 and 4, in this order
 unfoldable pub round-returned : List ℤ → ℕ → List ℤ → Returned
 round-returned elements b coefficients =
-    unless (eqb (length elements) components-size && eqb (length coefficients) samples-size) 1
+    unless (eqb (length elements) components-size && eqb (length coefficients) places) 1
     (unless (width b) 3
-    (lowest samples-size (λ p. ltb magnitudes-limit (magnitudes (element-at elements p))) 4 accept))
+    (lowest places (λ p. ltb magnitudes-limit (magnitudes (element-at elements p))) 4 accept))
 
 -- the coefficients after the call: "the coefficient at index 8u+v is made from the element at (u,v)"
 unfoldable pub round-coefficients : List ℤ → ℕ → List ℤ → List ℤ
 round-coefficients elements b coefficients =
-    written (round-returned elements b coefficients) (table samples-size (λ p. coefficient b (numbers b) (element-at elements p))) coefficients
+    written (round-returned elements b coefficients) (table places (λ p. coefficient b (numbers b) (element-at elements p))) coefficients
 
 -- each of the 64 coefficients lies within 1/2 + 65,536/2^b of half of its element's value
 pub record AllNear (elements : List ℤ) (b : ℕ) (coefficients : List ℤ) : Type 0 where
-  pub near : (p : ℕ) → p < samples-size → Near (getD coefficients p (pos 0)) (element-at elements p) (distance error-limit b)
+  pub near : (p : ℕ) → p < places → Near (getD coefficients p (pos 0)) (element-at elements p) (distance distance-numerator b)

@@ -3,7 +3,7 @@
 // `round` takes any buffers and any b. An accepted call leaves the formula's 64 numbers, each within 1/2 + 65,536/2^b of half of its
 // element's value; a refused one leaves the buffer as it was, and names the first cause.
 //
-// 64 bits suffice: a table number is below 2^(b+1), as c_k is below 2, so that N is at most 2^(b+1) times the sum of the element's
+// 64 bits suffice: a table number is at most 2^(b+1) (`number-small`), so that N is at most 2^(b+1) times the sum of the element's
 // magnitudes. That sum is at most 2^18, and b at most 26: no sum or product here is above 2^46. In 32 bits the products would wrap at b = 20.
 ghost use mathlib.Core.Path.{_≡_};
 ghost use Prim.Native.Nat.{_^_, _<_};
@@ -15,8 +15,8 @@ ghost use mir.Val.{SFits};
 ghost use Rattle.integers.specs.Search.{first};
 ghost use Rattle.integers.specs.Table.{table};
 ghost use Rattle.ring.specs.Element as ring;
-ghost use Rattle.dct.specs.Limits.{samples-size, components-size, magnitudes-limit};
-ghost use Rattle.cuts.specs.Width as width;
+ghost use Rattle.dct.specs.Limits.{places, components-size, magnitudes-limit};
+ghost use Rattle.cuts.specs.Width as cuts;
 ghost use Rattle.elements.specs.Buffer.{element-at};
 ghost use Rattle.answers.specs.Answer.{returned, accepted};
 ghost use Rattle.rounding.specs.Asked.{Allowed, Ready};
@@ -109,7 +109,7 @@ fn plus_product(s: i64, x: i64, y: i32) -> i64
 // N = 2^b·u_0 + m_1·u_1 + ... + m_7·u_7, for the table numbers at b.
 fn numerator(u: Element, b: u32, numbers: [i64; 7]) -> i64
     requires { ⌜ Allowed b numbers (u .components) ⌝ }
-    ensures { λ r. ⌜ r ≡ width.numerator b numbers (u .components) ⌝ }
+    ensures { λ r. ⌜ r ≡ cuts.numerator b numbers (u .components) ⌝ }
 {
     let a = u.components;
     let mut n = plus_product(0, power_of_two(b), a[0]);
@@ -124,7 +124,7 @@ fn numerator(u: Element, b: u32, numbers: [i64; 7]) -> i64
 // (N + 2^b) divided by 2^(b+1), rounded down: `>>` on an i64 rounds down.
 fn coefficient(u: Element, b: u32, numbers: [i64; 7]) -> i32
     requires { ⌜ Allowed b numbers (u .components) ⌝ }
-    ensures { λ r. ⌜ r ≡ width.coefficient b numbers (u .components) ⌝ }
+    ensures { λ r. ⌜ r ≡ cuts.coefficient b numbers (u .components) ⌝ }
 {
     let n = numerator(u, b, numbers);
     let half = power_of_two(b);
@@ -135,7 +135,7 @@ fn coefficient(u: Element, b: u32, numbers: [i64; 7]) -> i32
 // The number of the first element whose magnitudes sum above the limit, or 64 where there is none.
 fn first_above_limit(elements: &[i32]) -> usize
     requires { ⌜ length (now elements) ≡ components-size ⌝ }
-    ensures { λ r. ⌜ r ≡ first samples-size (λ p. ltb magnitudes-limit (ring.magnitudes (element-at (now (elements .entry)) p))) ⌝ }
+    ensures { λ r. ⌜ r ≡ first places (λ p. ltb magnitudes-limit (ring.magnitudes (element-at (now (elements .entry)) p))) ⌝ }
 {
     let mut p = 0;
     while p < PLACES {
@@ -151,7 +151,7 @@ fn first_above_limit(elements: &[i32]) -> usize
 // Every coefficient, of elements that are all within the limit.
 fn fill(elements: &[i32], b: u32, coefficients: &mut [i32])
     requires { ⌜ Ready (now elements) b (now coefficients) ⌝ }
-    ensures { λ r. ⌜ now (coefficients .exit) ≡ table samples-size (λ p. width.coefficient b (tables.numbers b) (element-at (now (elements .entry)) p)) ⌝ }
+    ensures { λ r. ⌜ now (coefficients .exit) ≡ table places (λ p. cuts.coefficient b (tables.numbers b) (element-at (now (elements .entry)) p)) ⌝ }
 {
     let numbers = numbers_at(b);
     let mut i = 0;

@@ -39,7 +39,7 @@ frequencies x j = step (λ i. number (column x j i))
 
 module _ {x : List ℤ} (range : AllInRange x) where
   small : (q : ℕ) → q < 64 → natAbs (sample x q) ≤ sample-limit
-  small q h = in-range-small (sample x q) (range .at q h)
+  small q h = in-range-small 2047 (sample x q) (range .at q h)
 
   pub bounded : Bounded 2 sample-limit (sample x)
   bounded q h = small q h

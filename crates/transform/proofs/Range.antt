@@ -11,37 +11,39 @@ use lib.IntN.{ℤ, pos, negsuc, natAbs}
 use lib.Signed.{ltZ}
 use mir.Facts.{and-yes}
 use borrow.Author.Tests.{lt-ltb, le-ltb}
-use Rattle.dct.specs.Limits.{samples-size, sample-limit, in-range}
+use Rattle.dct.specs.Limits.{places, in-signed-range, in-range}
 use Rattle.transform.specs.Forward.{sample}
 
 -- every sample of a block is in range
 pub record AllInRange (x : List ℤ) : Type 0 where
-  pub at : (i : ℕ) → i < samples-size → in-range (sample x i) ≡ true
+  pub at : (i : ℕ) → i < places → in-range (sample x i) ≡ true
 
 -- for naturals, S < n is the negation of n < S + 1
-above : (S n : ℕ) → ltb S n ≡ not (ltb n (suc S))
-above S n = go (decLt S n)
+beyond : (S n : ℕ) → ltb S n ≡ not (ltb n (suc S))
+beyond S n = go (decLt S n)
   where
     go : Dec (S < n) → ltb S n ≡ not (ltb n (suc S))
     go (yes h) = rw (lt-ltb S n h, le-ltb n (suc S) h)
     go (no h) = rw (le-ltb S n (omega arith), lt-ltb n (suc S) (omega arith))
 
--- the test of a negative number, whose magnitude is n + 1
-negative : (n : ℕ) → not (ltb n 2048) ≡ not (in-range (negsuc n))
-negative n = ap not (leb·suc-suc n 2047 ∙ sym (and-true (leb n 2047)))
-  where
-    and-true : (b : Bool) → (b && true) ≡ b
-    and-true true = refl
-    and-true false = refl
+-- the range from -(M + 1) to M
+module _ (M : ℕ) where
+  -- the test of a negative number, whose magnitude is n + 1
+  negative : (n : ℕ) → not (ltb n (suc M)) ≡ not (in-signed-range (suc M) (negsuc n))
+  negative n = ap not (leb·suc-suc n M ∙ sym (and-true (leb n M)))
+    where
+      and-true : (b : Bool) → (b && true) ≡ b
+      and-true true = refl
+      and-true false = refl
 
-pub too-low : (x : ℤ) → ltZ x (negsuc 2047) ≡ true → true ≡ not (in-range x)
-too-low (pos n) e = absurd (subst T (sym e) tt)
-too-low (negsuc n) e = sym e ∙ above 2047 n ∙ negative n
+  pub too-low : (x : ℤ) → ltZ x (negsuc M) ≡ true → true ≡ not (in-signed-range (suc M) x)
+  too-low (pos n) e = absurd (subst T (sym e) tt)
+  too-low (negsuc n) e = sym e ∙ beyond M n ∙ negative n
 
-pub not-too-low : (x : ℤ) → ltZ x (negsuc 2047) ≡ false → ltZ (pos 2047) x ≡ not (in-range x)
-not-too-low (pos n) e = above 2047 n
-not-too-low (negsuc n) e = sym e ∙ above 2047 n ∙ negative n
+  pub not-too-low : (x : ℤ) → ltZ x (negsuc M) ≡ false → ltZ (pos M) x ≡ not (in-signed-range (suc M) x)
+  not-too-low (pos n) e = beyond M n
+  not-too-low (negsuc n) e = sym e ∙ beyond M n ∙ negative n
 
-pub in-range-small : (x : ℤ) → in-range x ≡ true → natAbs x ≤ sample-limit
-in-range-small (pos n) e = let h : n < 2048 = leb→le (suc n) 2048 (rw e tt) in omega arith
-in-range-small (negsuc n) e = let h : n ≤ 2047 = leb→le n 2047 (and-yes (leb n 2047) true (rw e tt) .0) in omega arith
+  pub in-range-small : (x : ℤ) → in-signed-range (suc M) x ≡ true → natAbs x ≤ suc M
+  in-range-small (pos n) e = let h : n < suc M = leb→le (suc n) (suc M) (rw e tt) in omega arith
+  in-range-small (negsuc n) e = let h : n ≤ M = leb→le n M (and-yes (leb n M) true (rw e tt) .0) in omega arith

@@ -12,7 +12,7 @@ use mir.Facts.{and-yes}
 use borrow.Author.Tests.{eq-eqb, ne-eqb, lt-ltb, le-ltb, not-false}
 use Rattle.integers.specs.Search.{first}
 use Rattle.integers.proofs.Search.{before-first}
-use Rattle.dct.specs.Limits.{samples-size, components-size, in-range}
+use Rattle.dct.specs.Limits.{places, components-size, in-range}
 use Rattle.answers.specs.Answer.{Returned, lowest, accept, accepted}
 use Rattle.answers.proofs.Accepted.{lowest-passes, unless-accepted, lowest-accepted, accepted-written}
 use Rattle.transform.specs.Forward.{sample, elements-of, forward-returned, forward-elements}
@@ -26,50 +26,50 @@ abbrev Ends : List ℤ → List ℤ → Returned → List ℤ → Type 0
 Ends x e r l = (r ≡ forward-returned x e) × (l ≡ forward-elements x e)
 
 module _ (x e : List ℤ) where
-  pub wrong-samples : (length x ≡ samples-size → ⊥) → Ends x e (record { number = 1; place = 0 }) e
+  pub wrong-samples : (length x ≡ places → ⊥) → Ends x e (record { number = 1; place = 0 }) e
   unfolding forward-returned forward-elements
-  wrong-samples n = (rw (ne-eqb (length x) samples-size n), rw (ne-eqb (length x) samples-size n))
+  wrong-samples n = (rw (ne-eqb (length x) places n), rw (ne-eqb (length x) places n))
 
-  module _ (s : length x ≡ samples-size) where
+  module _ (s : length x ≡ places) where
     pub wrong-elements : (length e ≡ components-size → ⊥) → Ends x e (record { number = 1; place = 0 }) e
     unfolding forward-returned forward-elements
     wrong-elements n =
-        (rw (eq-eqb (length x) samples-size s, ne-eqb (length e) components-size n), rw (eq-eqb (length x) samples-size s, ne-eqb (length e) components-size n))
+        (rw (eq-eqb (length x) places s, ne-eqb (length e) components-size n), rw (eq-eqb (length x) places s, ne-eqb (length e) components-size n))
 
-    module _ (t : length e ≡ components-size) (i : ℕ) (f : i ≡ first samples-size (faulty x)) where
-      pub faulty-sample : i < samples-size → Ends x e (record { number = 2; place = i }) e
+    module _ (t : length e ≡ components-size) (i : ℕ) (f : i ≡ first places (faulty x)) where
+      pub faulty-sample : i < places → Ends x e (record { number = 2; place = i }) e
       unfolding forward-returned forward-elements
       faulty-sample h = (
-        rw (eq-eqb (length x) samples-size s, eq-eqb (length e) components-size t, ← f, lt-ltb i samples-size h),
-        rw (eq-eqb (length x) samples-size s, eq-eqb (length e) components-size t, ← f, lt-ltb i samples-size h),
+        rw (eq-eqb (length x) places s, eq-eqb (length e) components-size t, ← f, lt-ltb i places h),
+        rw (eq-eqb (length x) places s, eq-eqb (length e) components-size t, ← f, lt-ltb i places h),
       )
 
-      pub no-fault : samples-size ≤ i → Ends x e accept (elements-of x)
+      pub no-fault : places ≤ i → Ends x e accept (elements-of x)
       unfolding forward-returned forward-elements
       no-fault h = (
-        rw (eq-eqb (length x) samples-size s, eq-eqb (length e) components-size t, ← f, le-ltb i samples-size h),
-        rw (eq-eqb (length x) samples-size s, eq-eqb (length e) components-size t, ← f, le-ltb i samples-size h),
+        rw (eq-eqb (length x) places s, eq-eqb (length e) components-size t, ← f, le-ltb i places h),
+        rw (eq-eqb (length x) places s, eq-eqb (length e) components-size t, ← f, le-ltb i places h),
       )
 
-      pub all-in-range : samples-size ≤ i → AllInRange x
-      all-in-range h = record { at = λ q l. not-false (in-range (sample x q)) (before-first samples-size (faulty x) q (rw (← f) (omega arith))) }
+      pub all-in-range : places ≤ i → AllInRange x
+      all-in-range h = record { at = λ q l. not-false (in-range (sample x q)) (before-first places (faulty x) q (rw (← f) (omega arith))) }
 
 -- ---- a call is accepted when the lengths are right and every sample is in range, and only then
 
-pub accepts : (x e : List ℤ) → length x ≡ samples-size → length e ≡ components-size → AllInRange x → forward-returned x e ≡ accept
+pub accepts : (x e : List ℤ) → length x ≡ places → length e ≡ components-size → AllInRange x → forward-returned x e ≡ accept
 unfolding forward-returned
 accepts x e s t range =
-    rw (eq-eqb (length x) samples-size s, eq-eqb (length e) components-size t)
-    (lowest-passes samples-size (faulty x) 2 accept (λ i h. ap not (range .at i h)))
+    rw (eq-eqb (length x) places s, eq-eqb (length e) components-size t)
+    (lowest-passes places (faulty x) 2 accept (λ i h. ap not (range .at i h)))
 
-pub accepted-means : (x e : List ℤ) → T (accepted (forward-returned x e)) → (length x ≡ samples-size) × (length e ≡ components-size) × AllInRange x
+pub accepted-means : (x e : List ℤ) → T (accepted (forward-returned x e)) → (length x ≡ places) × (length e ≡ components-size) × AllInRange x
 unfolding forward-returned
 accepted-means x e h =
-    let lengths = eqb (length x) samples-size && eqb (length e) components-size in
-    let (both, rest) = unless-accepted lengths 0 (lowest samples-size (faulty x) 2 accept) h in
-    let (s, t) = and-yes (eqb (length x) samples-size) (eqb (length e) components-size) both in
-    let (none, done) = lowest-accepted samples-size (faulty x) 1 accept rest in
-    (eqb→eq (length x) samples-size s, eqb→eq (length e) components-size t, record { at = λ i l. not-false (in-range (sample x i)) (none i l) })
+    let lengths = eqb (length x) places && eqb (length e) components-size in
+    let (both, rest) = unless-accepted lengths 0 (lowest places (faulty x) 2 accept) h in
+    let (s, t) = and-yes (eqb (length x) places) (eqb (length e) components-size) both in
+    let (none, done) = lowest-accepted places (faulty x) 1 accept rest in
+    (eqb→eq (length x) places s, eqb→eq (length e) components-size t, record { at = λ i l. not-false (in-range (sample x i)) (none i l) })
 
 pub accepted-leaves : (x e : List ℤ) → T (accepted (forward-returned x e)) → forward-elements x e ≡ elements-of x
 unfolding forward-elements

@@ -7,7 +7,7 @@ use lib.IntN.{ℤ, pos}
 use lib.ListN.{length, getD}
 use Rattle.integers.specs.Table.{table}
 use Rattle.ring.specs.Element.{component}
-use Rattle.dct.specs.Limits.{dimensions, samples-size, components-size, in-range}
+use Rattle.dct.specs.Limits.{dimensions, places, components-size, in-range}
 use Rattle.dct.specs.Transform.{element}
 use Rattle.answers.specs.Answer.{Returned, unless, lowest, accept, written}
 
@@ -22,8 +22,8 @@ elements-of x = table components-size (λ i. component (element dimensions (samp
 -- causes 1 and 2, in this order
 unfoldable pub forward-returned : List ℤ → List ℤ → Returned
 forward-returned samples elements =
-    unless (eqb (length samples) samples-size && eqb (length elements) components-size) 1
-    (lowest samples-size (λ i. not (in-range (sample samples i))) 2 accept)
+    unless (eqb (length samples) places && eqb (length elements) components-size) 1
+    (lowest places (λ i. not (in-range (sample samples i))) 2 accept)
 
 -- the elements after the call
 unfoldable pub forward-elements : List ℤ → List ℤ → List ℤ

@@ -16,7 +16,7 @@ ghost use lib.ListN.{length};
 ghost use Rattle.integers.specs.Search.{first};
 ghost use Rattle.integers.specs.Table.{table};
 ghost use Rattle.ring.specs.Element as ring;
-ghost use Rattle.dct.specs.Limits.{components-size, in-range, samples-size};
+ghost use Rattle.dct.specs.Limits.{components-size, in-range, places};
 ghost use Rattle.dct.specs.Transform as dct;
 ghost use Rattle.answers.specs.Answer.{returned};
 ghost use Rattle.elements.specs.Bound.{Within, room};
@@ -145,7 +145,7 @@ fn step(x: [Element; 8]) -> [Element; 8]
 
 // The samples of a block as whole numbers, each column of the block a row.
 fn columns(samples: &[i32]) -> [[Element; 8]; 8]
-    requires { ⌜ length (now samples) ≡ samples-size ⌝ }
+    requires { ⌜ length (now samples) ≡ places ⌝ }
     ensures { λ r. ⌜ Rows (λ j i. ring.number (sample (now (samples .entry)) (8 * i + j))) r ⌝ }
 {
     let zero = only(0, 0);
@@ -210,8 +210,8 @@ fn outside(x: i32) -> bool
 
 // The lowest index of a sample that is out of range, and 64 where there is none.
 fn first_outside(samples: &[i32]) -> usize
-    requires { ⌜ length (now samples) ≡ samples-size ⌝ }
-    ensures { λ r. ⌜ r ≡ first samples-size (λ i. not (in-range (sample (now (samples .entry)) i))) ⌝ }
+    requires { ⌜ length (now samples) ≡ places ⌝ }
+    ensures { λ r. ⌜ r ≡ first places (λ i. not (in-range (sample (now (samples .entry)) i))) ⌝ }
 {
     let mut i = 0;
     while i < PLACES {

@@ -8,12 +8,12 @@ use lib.Dec.{T}
 use lib.IntN.{ℤ, pos}
 use Rattle.integers.proofs.Tables.{Filled, filled-none, filled-more, filled-all}
 use Rattle.ring.specs.Element.{magnitudes}
-use Rattle.dct.specs.Limits.{samples-size, magnitudes-limit}
+use Rattle.dct.specs.Limits.{places, magnitudes-limit}
 use Rattle.cuts.specs.Width.{coefficient}
 use Rattle.elements.specs.Buffer.{element-at}
 use Rattle.rounding.specs.Asked.{Allowed}
 use Rattle.rounding.specs.Tables.{width, numbers}
-use Rattle.rounding.proofs.Sizes.{bounded}
+use Rattle.rounding.proofs.Sizes.{sized}
 use Rattle.rounding.proofs.Steps.{coefficient-kept}
 use Rattle.rounding.proofs.fill.Statement.{statement}
 use Rattle.rounding.proofs.fill.Tie as tie
@@ -23,7 +23,7 @@ allowed w e f h = record { at-width = w; are-numbers = e; in-limit = rw f h }
 
 abbrev Inv-loop : tie.InvT-loop
 Inv-loop elements b coefficients₀ numbers-at-b i₀ coefficients i =
-    Filled (pos 0) samples-size (λ p. coefficient b (numbers b) (element-at elements p)) i coefficients
+    Filled (pos 0) places (λ p. coefficient b (numbers b) (element-at elements p)) i coefficients
 
 abbrev μ-loop : tie.MeasureT-loop
 μ-loop elements b coefficients₀ numbers-at-b i₀ coefficients i = 64 - i
@@ -60,7 +60,7 @@ loop-again c =
     let start = c .before .before .before .before .before in
     let table = c .before .before .before .before .numbers-at .ensures in
     let element = c .before .element-at .ensures in
-    let bounds = bounded (allowed (start .pre .ready-width) table element (start .pre .ready-limit _ (omega arith))) in
+    let bounds = sized (allowed (start .pre .ready-width) table element (start .pre .ready-limit _ (omega arith))) in
     filled-more (omega arith) (c .before .before .before .loop .inv)
     (coefficient-kept bounds (c .coefficient .ensures) ∙ ap₂ (coefficient (start .args .b)) table element)
 

@@ -5,13 +5,13 @@ use Prim.Native.Nat.{_-_}
 use native.Mathlib.Omega.{arith}
 use Rattle.integers.proofs.Search.{Passed, passed-none, passed-more, first-at, first-none}
 use Rattle.ring.specs.Element.{magnitudes}
-use Rattle.dct.specs.Limits.{samples-size}
-use Rattle.rounding.proofs.Causes.{above, above-yes, above-no}
+use Rattle.dct.specs.Limits.{places}
+use Rattle.rounding.proofs.Causes.{above-limit, above-yes, above-no}
 use Rattle.rounding.proofs.first_above_limit.Statement.{statement}
 use Rattle.rounding.proofs.first_above_limit.Tie as tie
 
 abbrev Inv-loop : tie.InvT-loop
-Inv-loop elements p₀ p = Passed samples-size (above elements) p
+Inv-loop elements p₀ p = Passed places (above-limit elements) p
 
 abbrev μ-loop : tie.MeasureT-loop
 μ-loop elements p₀ p = 64 - p
@@ -31,7 +31,7 @@ returns c =
     let l = at .before .args .elements .now in
     let sum = c .before .magnitudes .ensures ∙ ap magnitudes (c .before .before .element-at .ensures) in
     let taken = c .before .before .before .loop-test .taken in
-    sym (first-at samples-size (above l) (at .loop .p) taken (at .loop .inv) (above-yes l (at .loop .p) sum (omega arith)))
+    sym (first-at places (above-limit l) (at .loop .p) taken (at .loop .inv) (above-yes l (at .loop .p) sum (omega arith)))
 
 add-p : tie.Need-add-p Inv-loop μ-loop
 add-p c = omega arith
@@ -49,8 +49,8 @@ loop-again c =
 returns-2 : tie.Need-returns-2 Inv-loop μ-loop
 returns-2 c =
     let l = c .before .before .args .elements .now in
-    let e : c .before .loop .p ≡ samples-size = omega arith in
-    e ∙ sym (first-none samples-size (above l) (rw e at (c .before .loop .inv)))
+    let e : c .before .loop .p ≡ places = omega arith in
+    e ∙ sym (first-none places (above-limit l) (rw e at (c .before .loop .inv)))
 
 pub first-above-limit-spec : {M : Type 1} → statement M
 first-above-limit-spec =

@@ -5,7 +5,7 @@ use Prim.Native.Nat.{_-_, _≤_}
 use native.Mathlib.Omega.{arith}
 use mir.Syntax.{w64}
 use mir.Val.{toZ}
-use Rattle.rounding.proofs.Sizes.{bounded, partial, partial-all}
+use Rattle.rounding.proofs.Sizes.{sized, partial, partial-all}
 use Rattle.rounding.proofs.Steps.{step-fits, step-kept, first-step, next-step}
 use Rattle.rounding.proofs.numerator.Statement.{statement}
 use Rattle.rounding.proofs.numerator.Tie as tie
@@ -17,18 +17,18 @@ abbrev μ-loop : tie.MeasureT-loop
 μ-loop b numbers a n₀ k₀ n k = 7 - k
 
 power-of-two-requires : tie.Need-power-of-two-requires Inv-loop μ-loop
-power-of-two-requires c κs = omega (arith, bounded (c .before .pre) .width-bound)
+power-of-two-requires c κs = omega (arith, sized (c .before .pre) .width-bound)
 
 array-copy-out-plus-product : tie.Need-array-copy-out-plus-product Inv-loop μ-loop
 array-copy-out-plus-product c = omega arith
 
 plus-product-requires : tie.Need-plus-product-requires Inv-loop μ-loop
-plus-product-requires c κs = step-fits (first-step (bounded (c .before .before .before .pre)) (c .before .power-of-two .ensures))
+plus-product-requires c κs = step-fits (first-step (sized (c .before .before .before .pre)) (c .before .power-of-two .ensures))
 
 loop-holds : tie.Need-loop-holds Inv-loop μ-loop
 loop-holds c =
     let power = c .before .before in
-    (step-kept (first-step (bounded (power .before .before .pre)) (power .power-of-two .ensures)) (c .plus-product .ensures), omega arith)
+    (step-kept (first-step (sized (power .before .before .pre)) (power .power-of-two .ensures)) (c .plus-product .ensures), omega arith)
 
 mul-plus-product : tie.Need-mul-plus-product Inv-loop μ-loop
 mul-plus-product c = omega arith
@@ -49,7 +49,7 @@ plus-product-requires-2 : tie.Need-plus-product-requires-2 Inv-loop μ-loop
 plus-product-requires-2 c κs =
     let at = c .before .before .before in
     let start = at .before .before .before .before .before in
-    step-fits (next-step (bounded (start .pre)) (at .loop .k) (c .before .before .loop-test .taken) (at .loop .n) (at .loop .inv .0))
+    step-fits (next-step (sized (start .pre)) (at .loop .k) (c .before .before .loop-test .taken) (at .loop .n) (at .loop .inv .0))
 
 add-k : tie.Need-add-k Inv-loop μ-loop
 add-k c = omega arith
@@ -62,7 +62,7 @@ loop-again c =
     let at = c .before .before .before .before in
     let start = at .before .before .before .before .before in
     let taken = c .before .before .before .loop-test .taken in
-    (step-kept (next-step (bounded (start .pre)) (at .loop .k) taken (at .loop .n) (at .loop .inv .0)) (c .plus-product2 .ensures), omega arith)
+    (step-kept (next-step (sized (start .pre)) (at .loop .k) taken (at .loop .n) (at .loop .inv .0)) (c .plus-product2 .ensures), omega arith)
 
 returns : tie.Need-returns Inv-loop μ-loop
 returns c =

@@ -3,7 +3,7 @@
 use mathlib.Core.Path.{sym, ap, _∙_}
 use lib.ListN.{length}
 use Rattle.integers.proofs.Tables.{length-table}
-use Rattle.dct.specs.Limits.{samples-size}
+use Rattle.dct.specs.Limits.{places}
 use Rattle.cuts.specs.Width.{coefficient}
 use Rattle.elements.specs.Buffer.{element-at}
 use Rattle.rounding.specs.Tables.{numbers}
@@ -54,7 +54,7 @@ same-length c =
     let passed = c .before .before .before .before .before .before .before in
     let args = passed .before .before .args in
     ap length (c .before .fill .ensures)
-    ∙ length-table samples-size (λ p. coefficient (args .b) (numbers (args .b)) (element-at (args .elements .now) p)) ∙ sym (passed .if2 .left)
+    ∙ length-table places (λ p. coefficient (args .b) (numbers (args .b)) (element-at (args .elements .now) p)) ∙ sym (passed .if2 .left)
 
 returns-5 : tie.Need-returns-5
 returns-5 c =

@@ -9,13 +9,13 @@ use mir.Val.{ofZ, toZ}
 use mir.Facts.{toZ-ofZ}
 use borrow.Author.Needs.{needs}
 use Rattle.integers.proofs.Search.{Passed, passed-none, passed-more, first-at, first-none}
-use Rattle.dct.specs.Limits.{samples-size, in-range}
+use Rattle.dct.specs.Limits.{places, in-range}
 use Rattle.transform.specs.Forward.{sample}
 use Rattle.transform.proofs.first_outside.Statement.{statement}
 use Rattle.transform.proofs.first_outside.Tie as tie
 
 abbrev Inv-loop : tie.InvT-loop
-Inv-loop samples i₀ i = Passed samples-size (λ i. not (in-range (sample samples i))) i
+Inv-loop samples i₀ i = Passed places (λ i. not (in-range (sample samples i))) i
 
 abbrev μ-loop : tie.MeasureT-loop
 μ-loop samples i₀ i = 64 - i
@@ -36,7 +36,7 @@ returns : tie.Need-returns Inv-loop μ-loop
 returns c =
     let x = sample (c .before .before .before .before .before .args .samples .now) (c .before .before .before .before .loop .i) in
     let read : toZ w32 (ofZ w32 x) ≡ x = toZ-ofZ (search needs) in
-    sym (first-at samples-size _ _ (omega arith) (c .before .before .before .before .loop .inv)
+    sym (first-at places _ _ (omega arith) (c .before .before .before .before .loop .inv)
     (ap (λ z. not (in-range z)) (sym read) ∙ sym (c .before .outside .ensures) ∙ c .if1 .taken))
 
 add-i : tie.Need-add-i Inv-loop μ-loop
@@ -56,7 +56,7 @@ returns-2 : tie.Need-returns-2 Inv-loop μ-loop
 returns-2 c =
     let i = c .before .loop .i in
     let all : i ≡ 64 = omega arith in
-    sym (first-none samples-size _ (rw all at (c .before .loop .inv)))
+    sym (first-none places _ (rw all at (c .before .loop .inv)))
 
 pub first-outside-spec : {M : Type 1} → statement M
 first-outside-spec =

@@ -13,13 +13,13 @@ returns : tie.Need-returns
 returns c =
     let x = c .before .args .x in
     let read : toZ w32 (ofZ w32 x) ≡ x = toZ-ofZ (search needs) in
-    too-low x (rw read at (c .if1 .taken))
+    too-low 2047 x (rw read at (c .if1 .taken))
 
 returns-2 : tie.Need-returns-2
 returns-2 c =
     let x = c .before .args .x in
     let read : toZ w32 (ofZ w32 x) ≡ x = toZ-ofZ (search needs) in
-    rw read (not-too-low x (rw read at (c .if1 .left)))
+    rw read (not-too-low 2047 x (rw read at (c .if1 .left)))
 
 pub outside-spec : {M : Type 1} → statement M
 outside-spec = tie.close (tie.spec returns returns-2)

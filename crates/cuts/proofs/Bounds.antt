@@ -74,10 +74,10 @@ double b = pow-add 2 b 1 ∙ mul-comm (2 ^ b) 2
 
 module _ {R : ℤ → ℤ → Type 0} (O : Order R) (e : ℤ) (b : ℕ) where
   -- p is within (2g + e·h)/2^(b+1), in the sense of R
-  abbrev pub Within : Fraction → ℤ → ℕ → Type 0
-  Within p g h = R (p .upper *ℤ pos (2 ^ (b + 1))) ((pos 2 *ℤ g +ℤ e *ℤ pos h) *ℤ pos (p .lower))
+  abbrev pub UpTo : Fraction → ℤ → ℕ → Type 0
+  UpTo p g h = R (p .upper *ℤ pos (2 ^ (b + 1))) ((pos 2 *ℤ g +ℤ e *ℤ pos h) *ℤ pos (p .lower))
 
-  within-plus : (p q : Fraction) (g i : ℤ) (h j : ℕ) → Within p g h → Within q i j → Within (plus p q) (g +ℤ i) (h + j)
+  within-plus : (p q : Fraction) (g i : ℤ) (h j : ℕ) → UpTo p g h → UpTo q i j → UpTo (plus p q) (g +ℤ i) (h + j)
   within-plus p q g i h j s t =
       rw (
         plus-left (p .upper) (q .upper) (pos (p .lower)) (pos (q .lower)) (pos (2 ^ (b + 1))),
@@ -86,7 +86,7 @@ module _ {R : ℤ → ℤ → Type 0} (O : Order R) (e : ℤ) (b : ℕ) where
       )
       (O .sums (O .multiples (q .lower) s) (O .multiples (p .lower) t))
 
-  within-whole : (z : ℤ) → Within (whole z) (pos (2 ^ b) *ℤ z) 0
+  within-whole : (z : ℤ) → UpTo (whole z) (pos (2 ^ b) *ℤ z) 0
   within-whole z = rw (double b, whole-both e z (pos (2 ^ b))) (O .same _)
 
   -- q against the table number m of its cosine, on the side that a positive factor needs, and on the other
@@ -97,7 +97,7 @@ module _ {R : ℤ → ℤ → Type 0} (O : Order R) (e : ℤ) (b : ℕ) where
   Outside m q = R ((pos 2 *ℤ m -ℤ e) *ℤ pos (q .lower)) (q .upper *ℤ pos (2 ^ (b + 1)))
 
   within-term : (u m : ℤ) (q : Fraction) → (T (ltZ (pos 0) u) → Inside m q) → (T (ltZ u (pos 0)) → Outside m q)
-      → Within (times u q) (m *ℤ u) (natAbs u)
+      → UpTo (times u q) (m *ℤ u) (natAbs u)
   within-term (pos n) m q f g =
       rw (*ℤ-assoc (pos n) (q .upper) (pos (2 ^ (b + 1))), term-positive e m (pos n) (pos (q .lower))) (multiple n f)
     where
@@ -109,8 +109,8 @@ module _ {R : ℤ → ℤ → Type 0} (O : Order R) (e : ℤ) (b : ℕ) where
       rw (negative-left (pos (suc n)) (q .upper) (pos (2 ^ (b + 1))), term-negative e m (pos (suc n)) (pos (q .lower)))
       (O .negatives (O .multiples (suc n) (g tt)))
 
-  within-sum : (n : ℕ) (f : ℕ → Fraction) (g : ℕ → ℤ) (h : ℕ → ℕ) → ((k : ℕ) → k < n → Within (f k) (g k) (h k))
-      → Within (sum (whole (pos 0)) plus n f) (sum (pos 0) _+ℤ_ n g) (sum 0 _+_ n h)
+  within-sum : (n : ℕ) (f : ℕ → Fraction) (g : ℕ → ℤ) (h : ℕ → ℕ) → ((k : ℕ) → k < n → UpTo (f k) (g k) (h k))
+      → UpTo (sum (whole (pos 0)) plus n f) (sum (pos 0) _+ℤ_ n g) (sum 0 _+_ n h)
   unfolding sum
   within-sum zero f g h t = rw (mul-zero (2 ^ b)) at (within-whole (pos 0))
   within-sum (suc n) f g h t = within-plus (sum (whole (pos 0)) plus n f) (f n) (sum (pos 0) _+ℤ_ n g) (g n) (sum 0 _+_ n h) (h n)
@@ -119,7 +119,7 @@ module _ {R : ℤ → ℤ → Type 0} (O : Order R) (e : ℤ) (b : ℕ) where
   pub within-all : (m u : List ℤ) (q : ℕ → Fraction)
       → ((k : ℕ) → k < 7 → T (ltZ (pos 0) (component u (suc k))) → Inside (component m k) (q (suc k)))
       → ((k : ℕ) → k < 7 → T (ltZ (component u (suc k)) (pos 0)) → Outside (component m k) (q (suc k)))
-      → Within (with-fractions u q) (numerator b m u) (0 + sum 0 _+_ 7 (parts u))
+      → UpTo (with-fractions u q) (numerator b m u) (0 + sum 0 _+_ 7 (parts u))
   unfolding with-fractions numerator
   within-all m u q f g =
       within-plus (whole (component u 0)) (sum (whole (pos 0)) plus 7 (terms u q))
