@@ -2,8 +2,8 @@
 pub mod Roots
 pub mod Order
 pub mod Below
+pub mod Some
 pub mod Tables
 pub mod Floor
 pub mod Bounds
 pub mod Error
-pub mod Some

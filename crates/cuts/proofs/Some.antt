@@ -17,19 +17,20 @@ use Rattle.cuts.specs.Root.{root, below, above}
 use Rattle.cuts.specs.Value.{Low, High}
 
 -- each c_k lies between 0 and 2
-between : ℕ → Bool
-between k = below (root (suc k)) (whole (pos 0)) && above (root (suc k)) (whole (pos 2))
+is-between : ℕ → Bool
+is-between k = below (root (suc k)) (whole (pos 0)) && above (root (suc k)) (whole (pos 2))
 
-between-test : T (every 7 between)
-unfolding between root
+between-test : T (every 7 is-between)
+unfolding is-between root
 between-test = tt
 
-module _ (k : ℕ) (l : 1 ≤ k) (h : k ≤ 7) where
-  at : T (below (root k) (whole (pos 0))) × T (above (root k) (whole (pos 2)))
-  unfolding between
-  at =
-      let e : suc (k - 1) ≡ k = omega arith in
-      rw e at (and-yes (below (root (suc (k - 1))) (whole (pos 0))) (above (root (suc (k - 1))) (whole (pos 2))) (every-at 7 between between-test (k - 1) (omega arith)))
+-- "All c_1 to c_7 are above 0", and below 2
+pub between : (k : ℕ) → 1 ≤ k → k ≤ 7 → T (below (root k) (whole (pos 0))) × T (above (root k) (whole (pos 2)))
+unfolding is-between
+between k l h =
+    let e : suc (k - 1) ≡ k = omega arith in
+    let t = every-at 7 is-between between-test (k - 1) (omega arith) in
+    rw e at (and-yes (below (root (suc (k - 1))) (whole (pos 0))) (above (root (suc (k - 1))) (whole (pos 2))) t)
 
 -- p or q, by the sign of a component
 abbrev by-sign : Fraction → Fraction → ℤ → Fraction
@@ -53,12 +54,12 @@ two = whole (pos 2)
 
 pub some-low : (u : List ℤ) → Low u (λ k. by-sign zero two (component u k))
 some-low u = record {
-  at-positive = λ k l h. when-positive zero two (λ x. T (below (root k) x)) (at k l h .0) (component u k);
-  at-negative = λ k l h. when-negative zero two (λ x. T (above (root k) x)) (at k l h .1) (component u k);
+  at-positive = λ k l h. when-positive zero two (λ x. T (below (root k) x)) (between k l h .0) (component u k);
+  at-negative = λ k l h. when-negative zero two (λ x. T (above (root k) x)) (between k l h .1) (component u k);
 }
 
 pub some-high : (u : List ℤ) → High u (λ k. by-sign two zero (component u k))
 some-high u = record {
-  at-positive = λ k l h. when-positive two zero (λ x. T (above (root k) x)) (at k l h .1) (component u k);
-  at-negative = λ k l h. when-negative two zero (λ x. T (below (root k) x)) (at k l h .0) (component u k);
+  at-positive = λ k l h. when-positive two zero (λ x. T (above (root k) x)) (between k l h .1) (component u k);
+  at-negative = λ k l h. when-negative two zero (λ x. T (below (root k) x)) (between k l h .0) (component u k);
 }

@@ -1,18 +1,19 @@
--- No two numbers obey the rule of one table number.
+-- No two numbers obey the rule of one table number, and none that does is above 2^(b+1): for every width.
 -- Assumes nothing.
 use mathlib.Core.Path.{_≡_}
-use Prim.Native.Nat.{ℕ, _+_, _^_}
+use Prim.Native.Nat.{ℕ, _+_, _^_, _≤_}
 use native.Mathlib.Omega.{arith}
-use lib.Dec.{T}
-use lib.IntN.{ℤ, pos, negsuc, _+ℤ_, _-ℤ_, _*ℤ_, *ℤ-comm}
+use lib.Dec.{T, leb→le}
+use lib.IntN.{ℤ, pos, negsuc, _+ℤ_, _-ℤ_, _*ℤ_, natAbs, *ℤ-comm}
 use lib.Signed.{_≤ℤ_, _<ℤ_}
 use mir.Facts.{and-yes}
 use Rattle.integers.proofs.Integer.{as-dif, dif-le, dif-lt, difs, *ℤ-<ℤ-cancel, ≤ℤ-antisym}
-use Rattle.cuts.specs.Fraction.{Fraction}
+use Rattle.cuts.specs.Fraction.{Fraction, whole}
 use Rattle.cuts.specs.Root.{root, below, above}
 use Rattle.cuts.specs.Width.{over-power, table-number}
 use Rattle.cuts.proofs.Order.{less-yes}
 use Rattle.cuts.proofs.Below.{below-less-above}
+use Rattle.cuts.proofs.Some.{between}
 
 -- (2m - 1)/2^(b+1) and (2m + 1)/2^(b+1)
 abbrev pub under : ℕ → ℤ → Fraction
@@ -42,3 +43,28 @@ at-most-other b k m n s t =
 
 pub only-table-number : (b k : ℕ) (m n : ℤ) → T (table-number b k m) → T (table-number b k n) → m ≡ n
 only-table-number b k m n s t = ≤ℤ-antisym (at-most-other b k m n s t) (at-most-other b k n m t s)
+
+-- ---- as c_k lies between 0 and 2
+
+below-double : (m d : ℤ) → ((pos 2 *ℤ m -ℤ pos 1) *ℤ pos 1) <ℤ (pos 2 *ℤ d) → m ≤ℤ d
+below-double m d h =
+    let l = dif-lt _ _ _ _ .0 (simp difs at (rw (as-dif m, as-dif d, as-dif (pos 2), as-dif (pos 1), as-dif (negsuc 0)) at h)) in
+    rw (as-dif m, as-dif d) (dif-le _ _ _ _ .1 (omega arith))
+
+above-zero : (m d : ℤ) → (pos 0 *ℤ d) <ℤ ((pos 2 *ℤ m +ℤ pos 1) *ℤ pos 1) → pos 0 ≤ℤ m
+above-zero m d h =
+    let l = dif-lt _ _ _ _ .0 (simp difs at (rw (as-dif m, as-dif d, as-dif (pos 2), as-dif (pos 1), as-dif (pos 0)) at h)) in
+    rw (as-dif m, as-dif (pos 0)) (dif-le _ _ _ _ .1 (omega arith))
+
+small : (m : ℤ) (D : ℕ) → pos 0 ≤ℤ m → m ≤ℤ pos D → natAbs m ≤ D
+small (pos n) D h k = leb→le n D (k .le)
+small (negsuc n) D h k = absurd (h .le)
+
+pub number-small : (b k : ℕ) → 1 ≤ k → k ≤ 7 → (m : ℤ) → T (table-number b k m) → natAbs m ≤ 2 ^ (b + 1)
+number-small b k l h m t =
+    let zero = whole (pos 0) in
+    let two = whole (pos 2) in
+    let D = pos (2 ^ (b + 1)) in
+    small m (2 ^ (b + 1))
+    (above-zero m D (less-yes zero (over b m) (below-less-above (root k) zero (over b m) (between k l h .0) (over-above b k m t))))
+    (below-double m D (less-yes (under b m) two (below-less-above (root k) (under b m) two (under-below b k m t) (between k l h .1))))

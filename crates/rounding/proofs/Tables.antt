@@ -1,16 +1,18 @@
--- The table numbers of the three widths obey 01's rule, and their sizes: each one computed test.
+-- The table numbers of the three widths obey 01's rule, which is one computed test.
 -- Assumes nothing.
 use mathlib.Core.Path.{_≡_, refl}
 use mathlib.Core.Logic.{⊎-elim}
 use mathlib.Core.Bool.{Bool, _||_}
 use Prim.Native.Nat.{ℕ, suc, _+_, _^_, _≤_, _<_}
-use lib.Dec.{T, leb, eqb, lit≤}
+use native.Mathlib.Nat.{zero-lt-suc}
+use lib.Dec.{T, eqb, lit≤}
 use lib.IntN.{natAbs}
-use mir.Facts.{or-yes, eqb-yes, leb-yes}
+use mir.Facts.{or-yes, eqb-yes}
 use Rattle.integers.proofs.Tests.{every, every-at}
 use Rattle.ring.specs.Element.{component}
 use Rattle.cuts.specs.Root.{root}
 use Rattle.cuts.specs.Width.{table-number, TableAt}
+use Rattle.cuts.proofs.Tables.{number-small as small}
 use Rattle.rounding.specs.Tables.{width, numbers}
 
 -- what holds at the three widths holds at each width
@@ -36,17 +38,9 @@ pub tables : (b : ℕ) → T (width b) → TableAt b (numbers b)
 unfolding right
 tables b w = record { numbers = λ k h. every-at 7 (right b) (all-right b w) k h }
 
--- it is at most 2^(b+1)
-small : ℕ → ℕ → Bool
-small b k = leb (natAbs (component (numbers b) k)) (2 ^ (b + 1))
-
-all-small : (b : ℕ) → T (width b) → T (every 7 (small b))
-unfolding small numbers
-all-small = by-width (λ b. T (every 7 (small b))) tt tt tt
-
+-- so it is at most 2^(b+1)
 pub number-small : (b : ℕ) → T (width b) → (k : ℕ) → k < 7 → natAbs (component (numbers b) k) ≤ 2 ^ (b + 1)
-unfolding small
-number-small b w k h = leb-yes (every-at 7 (small b) (all-small b w) k h)
+number-small b w k h = small b (suc k) (zero-lt-suc k) h (component (numbers b) k) (tables b w .numbers k h)
 
 pub width-small : (b : ℕ) → T (width b) → b ≤ 26
 width-small = by-width (λ b. b ≤ 26) (lit≤ tt) (lit≤ tt) (lit≤ tt)
