@@ -11,43 +11,15 @@ use Rattle.rounding.specs.Tables.{numbers}
 use Rattle.films.specs.Films.{films, Hold}
 use Rattle.films.proofs.Constant.{constant}
 
+-- a line holds, and the rest does
+infixr 5 _also_
+_also_ : {A B : Type 0} → A → B → A × B
+a also b = (a, b)
+
 -- each line is computed, but for the blocks whose samples are all the same, of which `constant` speaks
 pub films-hold : Hold films
 unfolding films cosine mul basis-product sum factor factors element root numerator coefficient numbers
-films-hold = (
-  refl,
-  (
-    refl,
-    (
-      refl,
-      (
-        refl,
-        (
-          refl,
-          (
-            refl,
-            (
-              constant (pos 1),
-              (
-                refl,
-                (
-                  refl,
-                  (
-                    refl,
-                    (
-                      constant (negsuc 2047),
-                      (
-                        constant (pos 2047),
-                        (refl, (refl, (refl, (refl, (refl, (refl, (refl, (refl, (refl, (refl, (refl, (refl, (refl, (refl, (refl, (refl, tt)))))))))))))))),
-                      ),
-                    ),
-                  ),
-                ),
-              ),
-            ),
-          ),
-        ),
-      ),
-    ),
-  ),
-)
+films-hold =
+    refl also refl also refl also refl also refl also refl also constant (pos 1) also refl also refl also refl also constant (negsuc 2047) also constant (pos 2047)
+    also refl also refl also refl also refl also refl also refl also refl also refl also refl also refl also refl also refl also refl also refl also refl also refl
+    also tt

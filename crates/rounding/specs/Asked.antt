@@ -16,7 +16,7 @@ pub record Allowed (b : ℕ) (m u : List ℤ) : Type 0 where
   pub are-numbers : m ≡ numbers b
   pub in-limit : magnitudes u ≤ magnitudes-limit
 
--- for all 64
+-- for all 64: the elements are what 01 calls an accepted set, there is room for 64 coefficients, and b is a width
 pub record Ready (elements : List ℤ) (b : ℕ) (coefficients : List ℤ) : Type 0 where
   pub elements-length : length elements ≡ components-size
   pub coefficients-length : length coefficients ≡ places

@@ -60,7 +60,7 @@ fn difference_of_products(a: Element, j: usize, b: Element, k: usize) -> Element
     subtract(times(a, j), times(b, k))
 }
 
-// The frequencies 0, 2, 4 and 6, from the sums of a row's first and second half.
+// The frequencies 0, 2, 4 and 6, from the four sums of a row.
 fn even(s: [Element; 4]) -> [Element; 4]
     requires { ⌜ Room 4 28 s ⌝ }
     ensures { λ r. ⌜ Row 4 (λ i. dct.half-step (entry s) (2 * i)) r ⌝ }
@@ -80,7 +80,7 @@ fn even(s: [Element; 4]) -> [Element; 4]
     [e0, e2, e4, e6]
 }
 
-// The frequencies 1, 3, 5 and 7, from the differences.
+// The frequencies 1, 3, 5 and 7, from its four differences.
 fn odd(d: [Element; 4]) -> [Element; 4]
     requires { ⌜ Room 4 28 d ⌝ }
     ensures { λ r. ⌜ Row 4 (λ i. dct.half-step (entry d) (2 * i + 1)) r ⌝ }
