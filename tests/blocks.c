@@ -31,7 +31,7 @@ static int32_t any(int32_t low, int32_t high) {
     return (int32_t)(low + (int64_t)(state % (uint64_t)((int64_t)high - low + 1)));
 }
 
-/* adds x·c_m to an element: m is brought to 0..31, then below 16, then below 8, by the cosine's own symmetries */
+/* adds x·c_m to an element: m is brought to 0..31, then to 0..16, then to 0..8, by the cosine's own symmetries */
 static void add_cosine(int64_t *u, int x, int m) {
     m = ((m % 32) + 32) % 32;
     if (m > 16) m = 32 - m;
@@ -73,7 +73,7 @@ static void check_elements(const int32_t *s, const int32_t *elements) {
 static void check_coefficients(const int32_t *elements, uint32_t b, const int32_t *coefficients) {
     for (int p = 0; p < 64; p++) {
         const int32_t *u = elements + 8 * p;
-        int64_t N = (int64_t)u[0] << b;
+        int64_t N = u[0] * ((int64_t)1 << b);
         for (int k = 1; k < 8; k++) N += llroundl(ldexpl(2 * cosl(k * pi / 16), (int)b)) * u[k];
         expect(coefficients[p] == (int32_t)floorl(ldexpl((long double)N + ldexpl(1, (int)b), -(int)b - 1)), "a coefficient differs from the formula");
         expect(fabsl(coefficients[p] - value(u) / 2) <= 0.5L + ldexpl(65536, -(int)b) + 1e-9L, "a coefficient is too far from half the value");
@@ -104,12 +104,11 @@ static void blocks(void) {
 static void other_sets(void) {
     int32_t elements[512];
     for (int n = 0; n < 400; n++) {
-        memset(elements, 0, sizeof elements);
         for (int p = 0; p < 64; p++) {
-            int32_t rest = 262144;
+            int32_t rest = 262144, shift = any(0, 7);
             for (int k = 0; k < 8; k++) {
-                int32_t part = n % 2 ? rest : any(0, rest);
-                elements[8 * p + any(0, 7)] += any(0, 1) ? part : -part;
+                int32_t part = k == 7 || n % 2 ? rest : any(0, rest);
+                elements[8 * p + (k + shift) % 8] = any(0, 1) ? part : -part;
                 rest -= part;
             }
         }
@@ -129,17 +128,18 @@ static void refusals(void) {
         s[n] = any(0, 1) ? any(2048, INT32_MAX) : any(INT32_MIN, -2049);
         expect(block_forward(s, 64, elements, 512) == 2, "forward: a sample out of range");
         s[n] = 0;
-        uint32_t b = (uint32_t)n == 11 || n == 20 || n == 26 ? UINT32_MAX : (uint32_t)n;
+        uint32_t b = n == 11 || n == 20 || n == 26 ? UINT32_MAX : (uint32_t)n;
         expect(block_round(elements, 512, b, coefficients, 64) == 3, "rounding: no width");
     }
     expect(block_forward(s, 64, elements, 513) == 1 && block_round(elements, 513, 26, coefficients, 64) == 1, "a buffer too long");
     expect(block_round(elements, 512, 26, coefficients, 65) == 1, "a buffer too long");
     for (int n = 0; n < 512; n++) {
-        elements[n] = any(0, 1) ? INT32_MIN : 262154;
+        memset(elements + n / 8 * 8, 0, 8 * sizeof elements[0]);
+        elements[n] = any(0, 1) ? INT32_MIN : 262145;
         expect(block_round(elements, 512, 26, coefficients, 64) == 4, "rounding: an element above the limit");
-        elements[n] = before[n];
+        memcpy(elements, before, sizeof before);
     }
-    expect(memcmp(elements, before, sizeof before) == 0 && memcmp(coefficients, was, sizeof was) == 0, "a refused call left something");
+    expect(memcmp(elements, before, sizeof before) == 0 && memcmp(coefficients, was, sizeof was) == 0, "a refused call wrote into a buffer");
 }
 
 int main(void) {

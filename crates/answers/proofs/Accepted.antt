@@ -11,7 +11,7 @@ use Rattle.integers.specs.Search.{first}
 use Rattle.integers.proofs.Search.{Passed, first-none, before-first, at-first}
 use Rattle.answers.specs.Answer.{Returned, unless, lowest, accepted, written}
 
--- ---- no cause: the next one is asked
+-- no cause: the next one is asked
 
 pub unless-passes : (t : Bool) (n : ℕ) (next : Returned) → T t → unless t n next ≡ next
 unless-passes true n next h = refl
@@ -19,7 +19,7 @@ unless-passes true n next h = refl
 pub lowest-passes : (size : ℕ) (faulty : ℕ → Bool) (n : ℕ) (next : Returned) → ((i : ℕ) → i < size → faulty i ≡ false) → lowest size faulty n next ≡ next
 lowest-passes size faulty n next h = rw (first-none size faulty (record { room = le-refl size; fails = h }), le-ltb size size (le-refl size))
 
--- ---- an accepted call had no cause
+-- an accepted call had no cause
 
 not-zero : (n : ℕ) → eqb (suc n) 0 ≡ false
 not-zero n = ne-eqb (suc n) 0 (λ e. omega arith)
@@ -37,12 +37,12 @@ lowest-accepted size faulty n next h = go (ltb (first size faulty) size) refl h
     go true e h = absurd (rw (not-zero n) at h)
     go false e h = ((λ i l. before-first size faulty i (lt-of-lt-of-le l (ltb-false (first size faulty) size e))), h)
 
--- ---- a refusal has its cause: the place that `lowest` names is faulty, and none below it is
+-- a refusal has its cause: the place that `lowest` names is faulty, and none below it is
 
 pub lowest-names : (size : ℕ) (faulty : ℕ → Bool) → first size faulty < size → (faulty (first size faulty) ≡ true) × ((i : ℕ) → i < first size faulty → faulty i ≡ false)
 lowest-names size faulty h = (at-first size faulty h, before-first size faulty)
 
--- ---- what it leaves
+-- what it leaves
 
 pub accepted-written : {A : Type 0} (r : Returned) (result was : A) → T (accepted r) → written r result was ≡ result
 accepted-written r result was h = go (accepted r) h

@@ -18,7 +18,7 @@ returned (Sample i) = record { number = 2; place = i }
 returned Width = record { number = 3; place = 0 }
 returned (Magnitudes p) = record { number = 4; place = p }
 
--- ---- the order of causes: each is asked before the next
+-- the order of causes: each is asked before the next
 
 -- cause n at place 0 where the test fails
 abbrev pub unless : Bool → ℕ → Returned → Returned

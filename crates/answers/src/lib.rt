@@ -5,7 +5,7 @@ ghost use Rattle.answers.specs.Answer.{returned};
 pub enum Answer {
     // The call did its work.
     Accepted,
-    // A buffer has not the length that the job asks for.
+    // A buffer does not have the length that the job asks for.
     Lengths,
     // The sample at this index is out of range.
     Sample(usize),

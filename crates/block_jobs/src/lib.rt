@@ -1,5 +1,5 @@
 // Forward and rounding for programs in other languages: tests/blocks.c holds them to T.81's formula. Each returns 01's number of the
-// answer, 0 for an accepted call.
+// answer, 0 for an accepted call; the place is not returned.
 ghost use mathlib.Core.Path.{_≡_};
 ghost use Rattle.transform.specs.Forward.{forward-elements, forward-returned};
 ghost use Rattle.rounding.specs.Rounding.{round-coefficients, round-returned};

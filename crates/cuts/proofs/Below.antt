@@ -14,7 +14,7 @@ use Rattle.cuts.specs.Fraction.{Fraction, whole, square, minus, at-most,
 use Rattle.cuts.specs.Root.{Root, root-2, root-2-plus, root-2-minus, below, above, Equal}
 use Rattle.cuts.proofs.Order.{at-most-no, less-no, less-at-most, at-most-less, less-square, less-shifted, less-turned}
 
--- ---- what lies below a root is less than what lies above it
+-- what lies below a root is less than what lies above it
 
 -- p lies at or below 0, or passes a test of its square; q is above 0 and fails it; and the tests order the squares
 module _ (p q : Fraction) (b c : Bool) (squares : T b → T (not c) → T (less (square p) (square q))) where
@@ -41,7 +41,7 @@ below-less-above (root-2-minus r) p q h k =
     (λ h k. less-turned (square p) (square q) (pos 2)
     (below-less-above r (minus two (square q)) (minus two (square p)) (T-not-not (below r (minus two (square q))) k) h)) h k
 
--- ---- no fraction is a root
+-- no fraction is a root
 
 -- in a² = 2·b² the number a is even, and with a = 2h also b² = 2·h², with an h less than b: so b, at most n, would go down for ever
 descent : (n a b : ℕ) → b ≤ n → 0 < b → a * a ≡ 2 * (b * b) → ⊥

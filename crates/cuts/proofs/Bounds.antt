@@ -16,7 +16,7 @@ use Rattle.cuts.specs.Fraction.{Fraction, whole, plus, times}
 use Rattle.cuts.specs.Value.{with-fractions}
 use Rattle.cuts.specs.Width.{numerator}
 
--- ---- equations of integers: both sides of a bound, for a sum of two fractions, a whole number and a term u·q
+-- equations of integers: both sides of a bound, for a sum of two fractions, a whole number and a term u·q
 
 plus-left : (x y m n D : ℤ) → (x *ℤ n +ℤ y *ℤ m) *ℤ D ≡ n *ℤ (x *ℤ D) +ℤ m *ℤ (y *ℤ D)
 plus-left x y m n D = +ℤ-*ℤ (x *ℤ n) (y *ℤ m) D ∙ ap₂ _+ℤ_ (move x n) (move y m)
@@ -42,7 +42,7 @@ term-negative e m w l = rw (as-dif e, as-dif m, as-dif w, as-dif l, as-dif (pos 
 negative-left : (w y D : ℤ) → (negℤ w *ℤ y) *ℤ D ≡ negℤ (w *ℤ (y *ℤ D))
 negative-left w y D = rw (as-dif w, as-dif y, as-dif D) (simp difs (dif-same _ _ _ _ (omega arith)))
 
--- ---- orders
+-- orders
 
 -- what a bound needs of ≤, and of its mirror
 pub record Order (R : ℤ → ℤ → Type 0) : Type 0 where
@@ -57,7 +57,7 @@ rising = record { same = ≤ℤ-refl; sums = +ℤ-≤ℤ; multiples = *ℤ-≤�
 pub falling : Order (λ a b. b ≤ℤ a)
 falling = record { same = ≤ℤ-refl; sums = +ℤ-≤ℤ; multiples = λ n h. *ℤ-≤ℤ n h; negatives = negℤ-≤ℤ }
 
--- ---- bounds over 2^(b+1)
+-- bounds over 2^(b+1)
 
 -- the terms u_k·q_k, m_k·u_k and |u_k|, for k from 1 to 7
 abbrev terms : List ℤ → (ℕ → Fraction) → ℕ → Fraction

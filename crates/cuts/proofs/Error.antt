@@ -23,7 +23,7 @@ use Rattle.cuts.proofs.Tables.{under, over, under-below, over-above}
 use Rattle.cuts.proofs.Floor.{rounded-down}
 use Rattle.cuts.proofs.Bounds.{rising, falling, parts, double, within-all}
 
--- ---- rounding adds at most 1/2: y is (N + B)/2B rounded down
+-- rounding adds at most 1/2: y is (N + B)/2B rounded down
 
 high : (N y B l c : ℤ) → (l +ℤ pos 2 *ℤ B) ≤ℤ c → (N +ℤ B) <ℤ ((pos 2 *ℤ B) *ℤ (y +ℤ pos 1)) → (pos 2 *ℤ N +ℤ l) ≤ℤ ((pos 2 *ℤ y) *ℤ (pos 2 *ℤ B) +ℤ c)
 high N y B l c s h =
@@ -44,7 +44,7 @@ at-most-over p t e h k = let all : cross p t ≤ℤ cross t p = rw e (≤ℤ-tra
 at-least-over : (p t : Fraction) {D : ℕ} {v : ℤ} → t .lower ≡ D → (v *ℤ pos (p .lower)) ≤ℤ (p .upper *ℤ pos D) → t .upper ≤ℤ v → T (at-most t p)
 at-least-over p t e h k = let all : cross t p ≤ℤ cross p t = rw e (≤ℤ-trans (≤ℤ-*ℤ (p .lower) k) h) in all .le
 
--- ---- the theorem
+-- the theorem
 
 module _ (b E : ℕ) (m u : List ℤ) (table : TableAt b m) (small : magnitudes u ≤ 4 * E) where
   N : ℤ

@@ -12,7 +12,7 @@ use mir.Facts.{not-T, T-not-not}
 use Rattle.integers.proofs.Integer.{as-dif, dif-same, difs, *ℤ-pos1, *ℤ-≤ℤ, ≤ℤ-*ℤ, *ℤ-<ℤ, *ℤ-<ℤ-cancel, <ℤ→≤ℤ, +ℤ-<ℤ-cancel, negℤ-<ℤ-cancel, leZ-no, square-<ℤ}
 use Rattle.cuts.specs.Fraction.{Fraction, whole, square, minus, at-most, less}
 
--- ---- the tests, as orders of integers
+-- the tests, as orders of integers
 
 -- p's upper number times q's lower one
 abbrev pub cross : Fraction → Fraction → ℤ
@@ -33,7 +33,7 @@ at-most-no p q h = yes-less q p (leZ-no h)
 pub less-no : (p q : Fraction) → T (not (less p q)) → T (at-most q p)
 less-no p q h = let k : cross q p ≤ℤ cross p q = ltZ-no h in k .le
 
--- ---- transitivity
+-- transitivity
 
 swap : (a b c : ℤ) → a *ℤ (b *ℤ c) ≡ c *ℤ (b *ℤ a)
 swap a b c = rw (as-dif a, as-dif b, as-dif c) (simp difs (dif-same _ _ _ _ (omega arith)))
@@ -55,7 +55,7 @@ at-most-less p q r h k =
     T-not-not (less p r) (not-T (not (less p r))
     (λ t. clashℤ (less-yes q p (less-at-most q r p k (less-no p r t))) (at-most-yes p q h)))
 
--- ---- squares
+-- squares
 
 square-cross : (a b : ℤ) → (a *ℤ a) *ℤ (b *ℤ b) ≡ (a *ℤ b) *ℤ (a *ℤ b)
 square-cross a b = rw (as-dif a, as-dif b) (simp difs (dif-same _ _ _ _ (omega arith)))
@@ -73,7 +73,7 @@ less-square p q h k =
     positive : pos 0 ≤ℤ cross q p
     positive = rw (zero-mul (p .lower)) at (≤ℤ-*ℤ (p .lower) (<ℤ→≤ℤ upper))
 
--- ---- differences from a whole number
+-- differences from a whole number
 
 shifted : (a z : ℤ) (m n : ℕ) → (a *ℤ pos 1 +ℤ (negsuc 0 *ℤ z) *ℤ pos m) *ℤ pos (n * 1) ≡ a *ℤ pos n +ℤ negℤ (z *ℤ pos (m * n))
 shifted a z m n =

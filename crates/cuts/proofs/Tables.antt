@@ -44,7 +44,7 @@ at-most-other b k m n s t =
 pub only-table-number : (b k : ℕ) (m n : ℤ) → T (table-number b k m) → T (table-number b k n) → m ≡ n
 only-table-number b k m n s t = ≤ℤ-antisym (at-most-other b k m n s t) (at-most-other b k n m t s)
 
--- ---- as c_k lies between 0 and 2
+-- as c_k lies between 0 and 2
 
 below-double : (m d : ℤ) → ((pos 2 *ℤ m -ℤ pos 1) *ℤ pos 1) <ℤ (pos 2 *ℤ d) → m ≤ℤ d
 below-double m d h =

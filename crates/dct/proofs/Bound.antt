@@ -20,7 +20,7 @@ use Rattle.dct.specs.Limits.{sample-limit, magnitudes-limit}
 use Rattle.dct.specs.Transform.{factor, factors, element, Bounded}
 use Rattle.dct.proofs.Factors.{eight-factor, eight-factors, factors-place, sum-digits}
 
--- ---- one dimension
+-- one dimension
 
 -- the eight factors of a frequency
 factor-at : ℕ → Bool
@@ -44,7 +44,7 @@ times-factor k h e =
     magnitudes-linear 8 16 (λ n b. mul b (factor k n)) (λ n. mul-left (factor k n))
     (λ j l. leb→le _ 16 (every₂-at 8 times-factor-at times-factor-test k j h l)) e
 
--- ---- d dimensions
+-- d dimensions
 
 -- the magnitudes of all the factors that make one element
 weight : ℕ → ℕ → ℕ

@@ -36,7 +36,7 @@ last-dimension d x p =
     entry : (q n : ℕ) → n < 8 → scale (x (q * 8 + n)) (factors (suc d) p (q * 8 + n)) ≡ term n q
     entry q n l = ap (scale (x (q * 8 + n))) (factors-place d p q n l) ∙ sym (mul-left (t n) .multiples (x (q * 8 + n)) (factors d (p / 8) q))
 
--- ---- one dimension: a step over whole numbers
+-- one dimension: a step over whole numbers
 
 pub first-dimension : (x : ℕ → ℤ) (k : ℕ) → k < 8 → element 1 x k ≡ step (λ n. number (x n)) k
 unfolding element step factors
@@ -45,7 +45,7 @@ first-dimension x k h = sum-cong [] add 8 _ _ (λ n l. ap (scale (x n)) (term n 
     term : (n : ℕ) → n < 8 → mul (number (pos 1)) (factor (k % 8) (n % 8)) ≡ factor k n
     term n l = rw (mod-eq-of-lt h, mod-eq-of-lt l) (mul-one (eight-factor k n))
 
--- ---- two dimensions
+-- two dimensions
 
 two-factors : (u v i j : ℕ) → u < 8 → v < 8 → i < 8 → j < 8 → factors 2 (8 * u + v) (i * 8 + j) ≡ mul (factor u i) (factor v j)
 unfolding factors
@@ -77,7 +77,7 @@ columns-then-rows x u v = sum-swap [] add elements 8 8 term ∙ sum-cong [] add 
         linear-sum (λ a. mul a (factor v j)) (mul-left (factor v j)) 8 (λ i. mul (number (x i j)) (factor u i))
         ∙ sum-cong [] add 8 _ _ (λ i h. entry i j)
 
--- ---- T.81
+-- T.81
 
 -- 2·C(k) × 2·cos((2n+1)·k·π/16) is twice the factor
 twice-factor : (k n : ℕ) → mul (twice-C k) (cosine (pos ((2 * n + 1) * k))) ≡ scale (pos 2) (factor k n)

@@ -43,7 +43,7 @@ pub factor-product : (k n l m : ℕ) → mul (factor k n) (factor l m) ≡ angle
 unfolding factor angle-product
 factor-product k n l m = cosine-product (pos (angle k n)) (pos (angle l m))
 
--- ---- by the last digit of an index
+-- by the last digit of an index
 
 div-digit : (a b : ℕ) → b < 8 → (a * 8 + b) / 8 ≡ a
 div-digit a b h = omega arith

@@ -1,5 +1,5 @@
--- The step by halves, as the code makes it: sums and differences of the elements that lie as far from the one end of a row as from the other,
--- then the even frequencies from the sums, and the odd ones from the differences.
+-- The step by halves, as the code makes it: butterflies, which are the sums x_n + x_(7-n) and the differences x_n - x_(7-n), then the even
+-- frequencies from the sums, and the odd ones from the differences.
 -- Assumes nothing.
 use mathlib.Core.Path.{_≡_, ap₂, _∙_}
 use mathlib.Core.Bool.{Bool}
@@ -16,7 +16,7 @@ use Rattle.ring.proofs.Components.{Eight}
 use Rattle.dct.specs.Transform.{angle, factor, step, half-step}
 use Rattle.dct.proofs.Factorised.{Expression, input, plus, minus, times, value, makes, plain-sum}
 
--- ---- a whole row from its halves
+-- a whole row from its halves
 
 -- the half-step of four expressions
 abbrev half : ℕ → (ℕ → Expression) → Expression
@@ -58,7 +58,7 @@ module _ (x : ℕ → List ℤ) (eights : (n : ℕ) → n < 8 → Eight (x n)) (
   unfolding step differences-at
   odd-step = half-value (2 * i + 1) differences x ∙ plain-sum 8 x eights (2 * i + 1) (half (2 * i + 1) differences) (every-at 4 differences-at differences-test i h)
 
--- ---- the halves
+-- the halves
 
 abbrev pub even : ℕ → Expression
 even i =

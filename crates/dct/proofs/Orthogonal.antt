@@ -22,7 +22,7 @@ use Rattle.dct.specs.Inverse.{gram, delta}
 use Rattle.dct.specs.Transform.{angle, factor, factors}
 use Rattle.dct.proofs.Factors.{angle-product, factor-product, factors-frequency, sum-digits}
 
--- ---- the values 16^d and 0
+-- the values 16^d and 0
 
 pub delta-same : (d q r : ℕ) → q ≡ r → delta d q r ≡ pos (16 ^ d)
 unfolding delta
@@ -47,7 +47,7 @@ delta-suc d q r = go (ℕ-discrete (q / 8) (r / 8)) (ℕ-discrete (q % 8) (r % 8
     go (yes p) (no s) = rw (delta-other 1 (q % 8) (r % 8) s, delta-other (suc d) q r (λ e. s (ap (λ (n : ℕ). n % 8) e))) (*ℤ-zero first)
     go (no p) s = rw (delta-other d (q / 8) (r / 8) p, delta-other (suc d) q r (λ e. p (ap (λ (n : ℕ). n / 8) e))) (zero-*ℤ last)
 
--- ---- one dimension
+-- one dimension
 
 -- the sum over all frequencies k of t(k,n) × t(k,m)
 row-gram : ℕ → ℕ → List ℤ
@@ -64,7 +64,7 @@ row-gram-is : (n m : ℕ) → n < 8 → m < 8 → row-gram n m ≡ number (delta
 unfolding row-gram row-gram-at
 row-gram-is n m h k = sum-cong [] add 8 _ _ (λ k l. factor-product k n k m) ∙ eqList→≡ _ _ (every₂-at 8 row-gram-at row-gram-test n m h k)
 
--- ---- d dimensions
+-- d dimensions
 
 -- one dimension more is one factor more
 module _ (d q r : ℕ) where

@@ -44,7 +44,7 @@ half-step r k = sum [] add 4 (λ n. mul (r n) (factor k n))
 abbrev pub Bounded : ℕ → ℕ → (ℕ → ℤ) → Type 0
 Bounded d S x = (q : ℕ) → q < 8 ^ d → natAbs (x q) ≤ S
 
--- ---- which components of the element at (u,v) may be non-zero (01, "Consequences to be shown")
+-- which components of the element at (u,v) may be non-zero (01, "Consequences to be shown")
 
 -- an odd frequency
 abbrev odd : ℕ → Bool

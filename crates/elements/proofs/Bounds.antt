@@ -52,7 +52,7 @@ within-times {B} {a} k h e w =
     rw (product-table k h e) (within-table (B + B) 8 (λ i. continued a (7 + i - k) +ℤ continued a (7 + i + k))
     (λ i l. le-trans (natAbs-add (continued a (7 + i - k)) (continued a (7 + i + k))) (add-le-add (within-continued w (7 + i - k)) (within-continued w (7 + i + k)))))
 
--- ---- the code's own sums and differences of two components, read from the bits of an i32
+-- the code's own sums and differences of two components, read from the bits of an i32
 
 module _ (op : ℤ → ℤ → ℤ) (small : (x y : ℤ) → natAbs (op x y) ≤ natAbs x + natAbs y)
     {a b : List ℤ} (p : Within headroom a) (q : Within headroom b) (i j : ℕ) where

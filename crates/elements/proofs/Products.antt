@@ -18,7 +18,7 @@ use Rattle.ring.proofs.Components.{Eight, eight-cosine, eight-mul, form-compone
 use Rattle.ring.proofs.Forms.{form-plus, form-neg, form-cond}
 use Rattle.elements.specs.Continued.{continued}
 
--- ---- the continued components, by the three stretches of the index
+-- the continued components, by the three stretches of the index
 
 pub continued-low : (u : List ℤ) (j : ℕ) → j < 7 → continued u j ≡ component u (7 - j)
 unfolding continued
@@ -32,7 +32,7 @@ pub continued-high : (u : List ℤ) (j : ℕ) → 16 ≤ j → continued u j ≡
 unfolding continued
 continued-high u j h = rw (le-ltb j 7 (omega arith), le-ltb j 16 h)
 
--- ---- the product: both sides are linear in the element, and a test compares them at 1 and at c_1 to c_7
+-- the product: both sides are linear in the element, and a test compares them at 1 and at c_1 to c_7
 
 -- component i of the product, as a sum of two
 entry : ℕ → ℕ → List ℤ → ℤ

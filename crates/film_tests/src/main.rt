@@ -1,5 +1,6 @@
-// Runs 01's films for forward and rounding, and some more of their kind, and prints what each call returns and leaves; the file stdout
-// has what 01 says. A line has the number and the place that the call returns, and then some numbers of its buffer, which held 7 before.
+// Runs 01's films of blocks and of elements through forward and rounding, and some more calls of their kind, and prints what each returns
+// and leaves; the file stdout has what 01 says, or what follows from its rules. A line has the number and the place that the call returns,
+// and then some numbers of its buffer, which held 7 before.
 ghost use Prim.Native.Nat.{_<_};
 use answers::Answer;
 use rounding::round;
@@ -50,7 +51,7 @@ fn try_forward(other: i32, x: i32, i: usize)
     print(elements[126], b'\n');
 }
 
-// A block that lacks a sample, which are all out of range; and a buffer that lacks a number.
+// 63 samples, all out of range: cause 1 comes before 2. Then a buffer of 511 numbers.
 fn short_forward() {
     let mut elements = [7i32; 512];
     print_answer(forward(&[2048i32; 63], &mut elements));
@@ -73,7 +74,7 @@ fn try_round(x: i32, k: usize, b: u32)
     print(coefficients[63], b'\n');
 }
 
-// A set that lacks a number, which are all too large, at no width; and a buffer that lacks a coefficient.
+// 511 numbers, all too large, at b = 12: cause 1 comes before 3 and 4. Then a buffer of 63 coefficients.
 fn short_round() {
     let mut coefficients = [7i32; 64];
     print_answer(round(&[262145i32; 511], 12, &mut coefficients));

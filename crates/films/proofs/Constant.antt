@@ -1,4 +1,4 @@
--- A block whose samples are all the same: it has one element that is not 0.
+-- A block whose samples are all the same: at most one of its elements is not 0.
 -- Assumes nothing.
 use mathlib.Core.Path.{_≡_, sym, ap, _∙_}
 use mathlib.Core.Bool.{Bool, cond}
@@ -50,7 +50,7 @@ double-sum-constant z u v =
     ∙ sym (linear-sum (scale z) (linear-scale z) 8 (λ i. mul (factor u i) (factor-sum v)))
     ∙ ap (scale z) (sym (linear-sum (λ a. mul a (factor-sum v)) (mul-left (factor-sum v)) 8 (factor u)))
 
--- ---- all samples z
+-- all samples z
 
 samples-constant : (z : ℤ) (u v : ℕ) → double-sum (λ i j. sample (all z) (8 * i + j)) u v ≡ double-sum (λ i j. z) u v
 unfolding double-sum

@@ -16,10 +16,15 @@ infixr 5 _also_
 _also_ : {A B : Type 0} → A → B → A × B
 a also b = (a, b)
 
--- each line is computed, but for the blocks whose samples are all the same, of which `constant` speaks
+-- each line is computed, but for the blocks whose samples are all the same, of which `constant` speaks; a line here is a film of the table
 pub films-hold : Hold films
 unfolding films cosine mul basis-product sum factor factors element root numerator coefficient numbers
 films-hold =
-    refl also refl also refl also refl also refl also refl also constant (pos 1) also refl also refl also refl also constant (negsuc 2047) also constant (pos 2047)
-    also refl also refl also refl also refl also refl also refl also refl also refl also refl also refl also refl also refl also refl also refl also refl also refl
+    refl also refl also refl also refl
+    also refl also refl
+    also constant (pos 1) also refl also refl also refl
+    also constant (negsuc 2047) also constant (pos 2047) also refl also refl also refl also refl also refl also refl
+    also refl also refl also refl also refl
+    also refl also refl also refl
+    also refl also refl also refl
     also tt

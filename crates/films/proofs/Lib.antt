@@ -1,2 +1,3 @@
+-- The starred films hold.
 pub mod Constant
 pub mod Films

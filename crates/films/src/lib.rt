@@ -1,2 +1,1 @@
-// 01's starred films over the definitions, and the blocks' sets that rounding accepts: definitions in specs/, laws in proofs/, and no
-// code.
+// 01's starred films as one table over the definitions, in specs/, and the proof that each holds, in proofs/; no code.

@@ -13,7 +13,7 @@ use lib.Dec.{T, ltb, ltb→lt, lt→ltb, nltb→le, leb→le, le→leb, nleb→l
 use lib.IntN.{ℤ, pos, negsuc, subℕ, _+ℤ_, _-ℤ_, _*ℤ_, negℤ, natAbs, one, *ℤ-one, *ℤ-comm}
 use lib.Signed.{_≤ℤ_, _<ℤ_, leZ}
 
--- ---- an integer as a difference
+-- an integer as a difference
 
 pub dif : ℕ → ℕ → ℤ
 dif a b = subℕ a b
@@ -62,7 +62,7 @@ pub as-dif : (z : ℤ) → z ≡ dif (up z) (down z)
 as-dif (pos n) = dif-pos n
 as-dif (negsuc n) = dif-negsuc n
 
--- ---- the operations
+-- the operations
 
 neg-parts : (z : ℤ) → negℤ z ≡ dif (down z) (up z)
 neg-parts (pos zero) = dif-pos zero
@@ -101,7 +101,7 @@ dif-mul a b c d =
     let (l, r, s) = common c d in
     mul-parts (dif a b) (dif c d) ∙ dif-same _ _ _ _ (product-same _ _ _ _ k l a b c d p q r s)
 
--- ---- the order
+-- the order
 
 le-parts : (z w : ℤ) → (z ≤ℤ w) ↔ (up z + down w ≤ up w + down z)
 le-parts (pos a) (pos b) = (λ h. let k : a ≤ b = leb→le a b (h .le) in omega arith, λ h. record { le = le→leb a b (omega arith) })
@@ -139,7 +139,7 @@ same-dif a b c d e =
     let v : down (dif a b) ≡ down (dif c d) = ap down e in
     omega arith
 
--- ---- the ring: each variable as a difference, the rules, and `omega`. What is not here `lib.IntN` has
+-- the ring: each variable as a difference, the rules, and `omega`. What is not here `lib.IntN` has
 
 pub ruleset difs = (dif-add, dif-mul, dif-neg)
 
@@ -176,7 +176,7 @@ pub *ℤ-cancel : {n : ℕ} → 0 < n → {a b : ℤ} → pos n *ℤ a ≡ pos n
     let t = eq-of-mul-eq-mul-left n h (up a + down b) (up b + down a) r in
     rw (as-dif a, as-dif b) (dif-same _ _ _ _ t)
 
--- ---- the order
+-- the order
 
 pub ≤ℤ-trans : {a b c : ℤ} → a ≤ℤ b → b ≤ℤ c → a ≤ℤ c
 ≤ℤ-trans {a} {b} {c} h k =
@@ -220,7 +220,7 @@ pub ≤ℤ-*ℤ : (n : ℕ) {a b : ℤ} → a ≤ℤ b → (a *ℤ pos n) ≤ℤ
 pub pos-≤ℤ : {a b : ℕ} → a ≤ b → pos a ≤ℤ pos b
 pos-≤ℤ {a} {b} h = record { le = le→leb a b h }
 
--- ---- the strict order
+-- the strict order
 
 pub <ℤ→≤ℤ : {a b : ℤ} → a <ℤ b → a ≤ℤ b
 <ℤ→≤ℤ {a} {b} h =

@@ -16,7 +16,7 @@ use Rattle.integers.proofs.Magnitudes.{natAbs-sub, small-fits}
 pub kept : (w : Width) (z : ℤ) → natAbs z < 2 ^ hbits w → toZ w (ofZ w z) ≡ z
 kept w z h = toZ-ofZ w z (small-fits w z h)
 
--- ---- a sum or a difference, of operands that are at most half of the range
+-- a sum or a difference, of operands that are at most half of the range
 
 module _ (op : ℤ → ℤ → ℤ) (small : (x y : ℤ) → natAbs (op x y) ≤ natAbs x + natAbs y)
     (w : Width) {B : ℕ} (half : B + B < 2 ^ hbits w) (x y : ℤ) (hx : natAbs x ≤ B) (hy : natAbs y ≤ B) where
@@ -31,7 +31,7 @@ module _ (op : ℤ → ℤ → ℤ) (small : (x y : ℤ) → natAbs (op x y) ≤
   pub op-kept : {r : ℤ} → r ≡ op (toZ w (ofZ w x)) (toZ w (ofZ w y)) → toZ w (ofZ w r) ≡ op x y
   op-kept e = rw (e, read) (kept w (op x y) (omega (arith, small x y)))
 
--- ---- an i32 in an i64, and its negative
+-- an i32 in an i64, and its negative
 
 module _ (x : ℤ) (h : SFits w32 x) where
   size : natAbs x < 2 ^ hbits w64

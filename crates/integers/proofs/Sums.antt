@@ -26,7 +26,7 @@ naturals = record { comm = add-comm; assoc = add-assoc; unit = zero-add }
 pub integers : CommutativeMonoid (pos 0) _+ℤ_
 integers = record { comm = +ℤ-comm; assoc = +ℤ-assoc; unit = +ℤ-idl }
 
--- ---- laws that ask nothing of the operation
+-- laws that ask nothing of the operation
 
 module _ {A : Type 0} (none : A) (plus : A → A → A) where
   pub sum-cong : (n : ℕ) (f g : ℕ → A) → ((k : ℕ) → k < n → f k ≡ g k) → sum none plus n f ≡ sum none plus n g
@@ -41,7 +41,7 @@ module _ {A : Type 0} (none : A) (plus : A → A → A) where
   sum-map none′ plus′ h z p zero f = z
   sum-map none′ plus′ h z p (suc n) f = p (sum none plus n f) (f n) ∙ ap (λ x. plus′ x (h (f n))) (sum-map none′ plus′ h z p n f)
 
--- ---- laws of a commutative monoid
+-- laws of a commutative monoid
 
 module _ {A : Type 0} (none : A) (plus : A → A → A) (M : CommutativeMonoid none plus) where
   unit-right : (a : A) → plus a none ≡ a
@@ -96,7 +96,7 @@ module _ {A B : Type 0} (none : A) (plus : A → A → A) (M : CommutativeMonoid
   sum-map-some h p (suc (suc n)) f l =
       p (sum none plus (suc n) f) (f (suc n)) ∙ ap (λ x. plus′ x (h (f (suc n)))) (sum-map-some h p (suc n) f (omega arith))
 
--- ---- sums of naturals
+-- sums of naturals
 
 pub sum-times : (n s : ℕ) (f : ℕ → ℕ) → s * sum 0 _+_ n f ≡ sum 0 _+_ n (λ k. s * f k)
 sum-times n s f = sum-map 0 _+_ 0 _+_ (λ t. s * t) (mul-zero s) (mul-add s) n f

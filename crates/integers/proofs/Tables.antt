@@ -25,7 +25,7 @@ module _ {A : Type 0} where
   is-table d l n f e h =
       ext-getD d l (table n f) (e ∙ sym (length-table n f)) (λ i b. let k : i < n = rw e at b in h i k ∙ sym (getD-table n f d i k))
 
--- ---- a loop that fills a buffer from the front
+-- a loop that fills a buffer from the front
 
 -- the buffer l has n places, and P holds of each of the first i; d is what `getD` gives past the end
 pub record Each {A : Type 0} (d : A) (n : ℕ) (P : ℕ → A → Type 0) (i : ℕ) (l : List A) : Type 0 where

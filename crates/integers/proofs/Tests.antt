@@ -12,7 +12,7 @@ use lib.Dec.{T, eqb, eqb→eq}
 use lib.IntN.{ℤ, pos, negsuc}
 use mir.Facts.{and-yes}
 
--- ---- ranges
+-- ranges
 
 -- the test f passes at each number below n
 abbrev pub every : ℕ → (ℕ → Bool) → Bool
@@ -40,7 +40,7 @@ every₃ n f = every n (λ i. every₂ n (f i))
 pub every₃-at : (n : ℕ) (f : ℕ → ℕ → ℕ → Bool) → T (every₃ n f) → (i j k : ℕ) → i < n → j < n → k < n → T (f i j k)
 every₃-at n f t i j k h l m = every₂-at n (f i) (every-at n (λ i. every₂ n (f i)) t i h) j k l m
 
--- ---- equality
+-- equality
 
 abbrev pub eqZ : ℤ → ℤ → Bool
 eqZ (pos a) (pos b) = eqb a b

@@ -1,5 +1,5 @@
-// The sum and the difference of two numbers, as functions: a store of one into an array then asks only that it fits. And the magnitude of a
-// number, which no i32 need hold.
+// Sum and difference of two i32 as functions, so that a store of one into an array asks only that it fits; and the magnitude of an i32, as
+// a u64, since that of -2^31 is no i32.
 ghost use mathlib.Core.Path.{_≡_};
 ghost use lib.IntN.{_+ℤ_, _-ℤ_, natAbs};
 ghost use mir.Val.{SFits};

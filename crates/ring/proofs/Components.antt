@@ -19,7 +19,7 @@ use Rattle.integers.proofs.Tests.{every, every-at, eqList, eqList→≡}
 use Rattle.ring.specs.Element.{component, add, scale, only, full-turn, cosine, by-rule, basis-product, combine, mul}
 use Rattle.ring.proofs.Linear.{Linear, LinearMap, LinearForm, linear-agree, add-nil}
 
--- ---- elements with all of their components
+-- elements with all of their components
 
 -- a record, so that the element can be inferred
 pub record Eight (a : List ℤ) : Type 0 where
@@ -84,7 +84,7 @@ eight-mul {a} {b} p q =
     eight-combine (λ i. combine (basis-product i) b) a (omega arith)
     (λ i h. eight-combine (basis-product i) b (omega arith) (λ j k. eight-product i j (omega arith) (omega arith)))
 
--- ---- components
+-- components
 
 pub component-add : (a b : List ℤ) (k : ℕ) → component (add a b) k ≡ component a k +ℤ component b k
 component-add [] b k = sym (+ℤ-idl (component b k))
@@ -112,7 +112,7 @@ same-components {a} {b} p q h = ext-getD (pos 0) a b (p .eight ∙ sym (q .eight
 pub by-components : {a : List ℤ} → Eight a → a ≡ table 8 (component a)
 by-components {a} e = is-table (pos 0) a 8 (component a) (e .eight) (λ k h. refl)
 
--- ---- an element is what its components count
+-- an element is what its components count
 
 expand-table : (u : ℕ → ℤ) → combine (only (pos 1)) (table 8 u) ≡ table 8 u
 expand-table u = simp (*ℤ-zero, *ℤ-pos1, +ℤ-idl, +ℤ-idr)

@@ -16,7 +16,7 @@ use Rattle.ring.proofs.Product.{cosine-neg, cosine-difference, mul-comm
 use Rattle.ring.proofs.Components.{eight-cosine}
 use Rattle.ring.proofs.Ring.{negative-of, mul-number, scale-zero}
 
--- ---- c_i × c_j = c_(i+j) + c_(i-j)
+-- c_i × c_j = c_(i+j) + c_(i-j)
 
 record Rule (i j : ℤ) : Type 0 where
   holds : mul (cosine i) (cosine j) ≡ add (cosine (i +ℤ j)) (cosine (i -ℤ j))
@@ -70,7 +70,7 @@ rule i (negsuc b) = rule-swapped (rule-negated (pos (suc b)) (rule-swapped (rule
 pub cosine-product : (i j : ℤ) → mul (cosine i) (cosine j) ≡ add (cosine (i +ℤ j)) (cosine (i -ℤ j))
 cosine-product i j = rule i j .holds
 
--- ---- the other rules
+-- the other rules
 
 pub cosine-0 : cosine (pos 0) ≡ number (pos 2)
 unfolding cosine
@@ -103,7 +103,7 @@ cosine-32 m =
     half-a-turn k =
         ap (λ (z : ℤ). cosine (pos 16 +ℤ z)) (sym (negℤ-negℤ k)) ∙ cosine-16 (negℤ k) ∙ ap negate (cosine-neg k)
 
--- ---- the squares that 01's cuts rest on
+-- the squares that 01's cuts rest on
 
 -- c_m² = 2 + c_(2m), which serves c_1, c_2 and c_3
 pub cosine-square : (m : ℤ) → mul (cosine m) (cosine m) ≡ add (number (pos 2)) (cosine (m +ℤ m))

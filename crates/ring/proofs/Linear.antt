@@ -11,7 +11,7 @@ use Rattle.integers.proofs.Integer.{*ℤ-pos1, *ℤ-assoc, *ℤ-+ℤ, +ℤ-*ℤ
 use Rattle.integers.proofs.Sums.{CommutativeMonoid, swap, sum-map}
 use Rattle.ring.specs.Element.{add, scale, combine}
 
--- ---- sums and multiples
+-- sums and multiples
 
 pub add-nil : (a : List ℤ) → add a [] ≡ a
 add-nil [] = refl
@@ -48,7 +48,7 @@ pub scale-one : (a : List ℤ) → scale (pos 1) a ≡ a
 scale-one [] = refl
 scale-one (x ∷ a) = ap₂ _∷_ (*ℤ-comm (pos 1) x ∙ *ℤ-pos1 x) (scale-one a)
 
--- ---- linear maps, into elements or into whole numbers
+-- linear maps, into elements or into whole numbers
 
 pub record Linear {B : Type 0} (none : B) (plus : B → B → B) (times : ℤ → B → B) (L : List ℤ → B) : Type 0 where
   pub nil : L [] ≡ none
@@ -92,7 +92,7 @@ linear-agree {plus = plus} {times = times} L M l m f (x ∷ a) h =
     (linear-agree L M l m (λ k. f (suc k)) a (λ k b. h (suc k) (omega arith)))
     ∙ sym (m .sums head rest)
 
--- ---- combinations
+-- combinations
 
 combine-add : (f : ℕ → List ℤ) (a b : List ℤ) → combine f (add a b) ≡ add (combine f a) (combine f b)
 combine-add f [] b = refl

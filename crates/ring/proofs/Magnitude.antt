@@ -14,7 +14,7 @@ use Rattle.ring.specs.Element.{component, add, scale, only, combine, mag
 use Rattle.ring.proofs.Linear.{LinearMap, linear-combine}
 use Rattle.ring.proofs.Components.{Eight, expand}
 
--- ---- the magnitudes summed from the front, component by component
+-- the magnitudes summed from the front, component by component
 
 abbrev pub sizes : List ℤ → ℕ → ℕ
 sizes a n = sum 0 _+_ n (λ k. natAbs (component a k))
@@ -36,7 +36,7 @@ pub component-le : (a : List ℤ) (k : ℕ) → natAbs (component a k) ≤ magni
 unfolding sum
 component-le a k = omega (arith, sizes-le (suc k) a)
 
--- ---- sums and multiples
+-- sums and multiples
 
 pub magnitudes-add : (a b : List ℤ) → magnitudes (add a b) ≤ magnitudes a + magnitudes b
 magnitudes-add [] b = omega arith
@@ -52,7 +52,7 @@ unfolding sum
 magnitudes-sum zero f = le-refl 0
 magnitudes-sum (suc n) f = omega (arith, magnitudes-add (sum [] add n f) (f n), magnitudes-sum n f)
 
--- ---- n linear maps: where their values at 1 and at each of c_1 to c_7 have magnitudes of C at most, those at a have C times a's own
+-- n linear maps: where their values at 1 and at each of c_1 to c_7 have magnitudes of C at most, those at a have C times a's own
 
 -- the sum of f 0 to f (n - 1) is linear in f
 sum-linear : (n s : ℕ) (f g : ℕ → ℕ) → sum 0 _+_ n (λ i. s * f i + g i) ≡ s * sum 0 _+_ n f + sum 0 _+_ n g

@@ -16,7 +16,7 @@ use Rattle.integers.proofs.Tests.{every₃, every₃-at, eqList, eqList→≡}
 use Rattle.ring.specs.Element.{add, scale, full-turn, cosine, by-rule, basis-product, combine, mul}
 use Rattle.ring.proofs.Linear.{LinearMap, linear-combine, linear-combination, combine-cong, combine-nil, combine-swap}
 
--- ---- commutative
+-- commutative
 
 -- c_(-m) = c_m
 pub cosine-neg : (m : ℤ) → cosine (negℤ m) ≡ cosine m
@@ -45,7 +45,7 @@ pub mul-comm : (a b : List ℤ) → mul a b ≡ mul b a
 unfolding mul
 mul-comm a b = combine-swap basis-product a b ∙ combine-cong (λ j. combine-flip j a) b
 
--- ---- linear in each factor
+-- linear in each factor
 
 pub mul-left : (b : List ℤ) → LinearMap (λ a. mul a b)
 unfolding mul
@@ -58,7 +58,7 @@ mul-right a = record {
   multiples = λ s b. mul-comm a (scale s b) ∙ mul-left a .multiples s b ∙ ap (scale s) (mul-comm b a);
 }
 
--- ---- associative: by a test over the basis elements, and linearity
+-- associative: by a test over the basis elements, and linearity
 
 triple-at : ℕ → ℕ → ℕ → Bool
 triple-at i j k = eqList (combine (λ m. basis-product m k) (basis-product i j)) (combine (basis-product i) (basis-product j k))

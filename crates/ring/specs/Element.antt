@@ -9,7 +9,7 @@ use lib.IntN.{ℤ, pos, negsuc, _+ℤ_, _-ℤ_, _*ℤ_, natAbs}
 use lib.ListN.{getD}
 use Rattle.integers.specs.Table.{table}
 
--- ---- sums and multiples
+-- sums and multiples
 
 -- component k, 01's u_k
 abbrev pub component : List ℤ → ℕ → ℤ
@@ -42,7 +42,7 @@ only s k = table 8 (λ i. cond (eqb i k) s (pos 0))
 abbrev pub number : ℤ → List ℤ
 number s = only s 0
 
--- ---- c_m for every whole m, by 01's rules
+-- c_m for every whole m, by 01's rules
 
 -- m from 0 to 8: c_0 = 2, each of c_1 to c_7 is counted by a component of its own, c_8 = 0
 abbrev pub quarter-turn : ℕ → List ℤ
@@ -61,7 +61,7 @@ full-turn m = cond (leb m 16) (half-turn m) (half-turn (32 - m))
 unfoldable pub cosine : ℤ → List ℤ
 cosine m = full-turn (natAbs m % 32)
 
--- ---- the product
+-- the product
 
 -- the product of the numbers that components i and j count, which are 1 and the c_k: 1 × c_j = c_j, c_i × c_j = c_(i+j) + c_(i-j)
 abbrev pub by-rule : ℕ → ℕ → List ℤ
@@ -83,7 +83,7 @@ combine f (x ∷ a) = add (scale x (f zero)) (combine (λ k. f (suc k)) a)
 unfoldable pub mul : List ℤ → List ℤ → List ℤ
 mul a b = combine (λ i. combine (basis-product i) b) a
 
--- ---- size
+-- size
 
 -- the sum of the magnitudes of an element's components, which 01 limits
 abbrev pub magnitudes : List ℤ → ℕ

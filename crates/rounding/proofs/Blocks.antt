@@ -19,7 +19,7 @@ use Rattle.transform.specs.Forward.{elements-of, forward-returned, forward-elem
 use Rattle.transform.proofs.Range.{AllInRange}
 use Rattle.transform.proofs.Refusals.{accepted-means, accepted-leaves}
 use Rattle.transform.proofs.Meaning.{length-elements, magnitudes-of}
-use Rattle.rounding.specs.Asked.{Ready}
+use Rattle.rounding.specs.Preconditions.{Ready}
 use Rattle.rounding.specs.Rounding.{round-returned}
 use Rattle.rounding.specs.Tables.{width}
 use Rattle.rounding.proofs.Causes.{above-limit}
@@ -50,7 +50,7 @@ accepted-ready e b c h =
       ready-limit = λ p l. ltb-false magnitudes-limit _ (none p l);
     }
 
--- ---- blocks' sets
+-- blocks' sets
 
 pub block-accepted : (x : List ℤ) → AllInRange x → (b : ℕ) → T (width b) → (c : List ℤ) → length c ≡ places → round-returned (elements-of x) b c ≡ accept
 block-accepted x range b w c l =

@@ -19,7 +19,7 @@ use Rattle.cuts.specs.Width.{coefficient}
 use Rattle.cuts.proofs.Error.{near}
 use Rattle.elements.specs.Buffer.{element-at}
 use Rattle.answers.specs.Answer.{Returned, lowest, accept, accepted}
-use Rattle.rounding.specs.Asked.{Ready}
+use Rattle.rounding.specs.Preconditions.{Ready}
 use Rattle.rounding.specs.Rounding.{AllNear, round-returned, round-coefficients}
 use Rattle.rounding.specs.Tables.{width, numbers}
 use Rattle.rounding.proofs.Tables.{tables}

@@ -1,4 +1,4 @@
--- The table numbers, what fits where, and the causes of a refusal.
+-- The table numbers, what fits where, the code's own sums, the causes of a refusal, and which calls are accepted.
 pub mod Tables
 pub mod Sizes
 pub mod Steps

@@ -17,10 +17,10 @@ use Rattle.ring.specs.Element.{component, magnitudes}
 use Rattle.ring.proofs.Magnitude.{sizes, sizes-le, component-le}
 use Rattle.dct.specs.Limits.{magnitudes-limit}
 use Rattle.cuts.specs.Width.{numerator, coefficient}
-use Rattle.rounding.specs.Asked.{Allowed}
+use Rattle.rounding.specs.Preconditions.{Allowed}
 use Rattle.rounding.proofs.Tables.{number-small, width-small}
 
--- ---- the numerator, summed from the front
+-- the numerator, summed from the front
 
 -- 2^b·u_0 + m_1·u_1 + ... + m_n·u_n
 abbrev pub partial : ℕ → List ℤ → List ℤ → ℕ → ℤ
@@ -40,7 +40,7 @@ pub partial-all : (b : ℕ) (m u : List ℤ) → partial b m u 7 ≡ numerator b
 unfolding numerator
 partial-all b m u = refl
 
--- ---- what the code knows of its operands
+-- what the code knows of its operands
 
 -- what no sum of products exceeds, at the largest width
 abbrev pub largest : ℕ

@@ -28,12 +28,12 @@ abbrev in64 : ℤ → ℤ
 in64 z = toZ w64 (ofZ w64 z)
 
 -- s + x·y is v, and the product and the sum fit
-pub record Step (s x y v : ℤ) : Type 0 where
+pub record ProductAdded (s x y v : ℤ) : Type 0 where
   pub product-small : natAbs (x *ℤ y) ≤ largest
   pub value : s +ℤ x *ℤ y ≡ v
   pub value-small : natAbs v ≤ largest
 
-module _ {s x y v : ℤ} (S : Step s x y v) where
+module _ {s x y v : ℤ} (S : ProductAdded s x y v) where
   pub step-fits : SFits w64 (x *ℤ y) × SFits w64 (s +ℤ x *ℤ y)
   step-fits = (
     small-fits w64 (x *ℤ y) (lt-of-le-of-lt (S .product-small) (lit< tt)),
@@ -52,7 +52,7 @@ module _ {b : ℕ} {m u : List ℤ} (B : Sized b m u) where
   power-kept {p} e = kept w64 p (rw e (lt-of-le-of-lt (pow-mono (B .width-bound)) (lit< tt))) ∙ e
 
   -- the power p times u_0
-  pub first-step : {p : ℤ} → p ≡ pos (2 ^ b) → Step (pos 0) (in64 p) (in32 (component u 0)) (partial b m u 0)
+  pub first-step : {p : ℤ} → p ≡ pos (2 ^ b) → ProductAdded (pos 0) (in64 p) (in32 (component u 0)) (partial b m u 0)
   first-step {p} e =
       let f : in64 p *ℤ in32 (component u 0) ≡ partial b m u 0 =
       ap₂ _*ℤ_ (power-kept e) (read 0) ∙ sym (partial-none b m u) in
@@ -60,7 +60,7 @@ module _ {b : ℕ} {m u : List ℤ} (B : Sized b m u) where
 
   -- m_(k+1) times u_(k+1), to the sum whose bits are n
   pub next-step : (k : ℕ) → k < 7 → (n : ℕ) → toZ w64 n ≡ partial b m u k
-      → Step (toZ w64 n) (in64 (component m k)) (in32 (component u (k + 1))) (partial b m u (k + 1))
+      → ProductAdded (toZ w64 n) (in64 (component m k)) (in32 (component u (k + 1))) (partial b m u (k + 1))
   next-step k h n e =
       let f : in64 (component m k) *ℤ in32 (component u (k + 1)) ≡ component m k *ℤ component u (suc k) =
       ap₂ _*ℤ_ (kept w64 (component m k) (lt-of-le-of-lt (number-less B k h) (lit< tt))) (read (k + 1) ∙ ap (component u) (add-one k)) in
@@ -70,7 +70,7 @@ module _ {b : ℕ} {m u : List ℤ} (B : Sized b m u) where
         value-small = rw (add-one k) (partial-small B (suc k) h);
       }
 
-  -- ---- the shift of the numerator n and the power p
+  -- the shift of the numerator n and the power p
 
   module _ {n p : ℤ} (e : n ≡ numerator b m u) (f : p ≡ pos (2 ^ b)) where
     numerator-kept : in64 n ≡ numerator b m u

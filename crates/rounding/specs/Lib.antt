@@ -1,3 +1,3 @@
-pub mod Asked
+pub mod Preconditions
 pub mod Rounding
 pub mod Tables

@@ -19,7 +19,7 @@ ghost use Rattle.dct.specs.Limits.{places, components-size, magnitudes-limit};
 ghost use Rattle.cuts.specs.Width as cuts;
 ghost use Rattle.elements.specs.Buffer.{element-at};
 ghost use Rattle.answers.specs.Answer.{returned, accepted};
-ghost use Rattle.rounding.specs.Asked.{Allowed, Ready};
+ghost use Rattle.rounding.specs.Preconditions.{Allowed, Ready};
 ghost use Rattle.rounding.specs.Rounding.{AllNear, round-returned, round-coefficients};
 ghost use Rattle.rounding.specs.Tables as tables;
 use answers::Answer;

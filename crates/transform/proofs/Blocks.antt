@@ -65,7 +65,7 @@ module _ {x : List ℤ} (range : AllInRange x) where
     };
   }
 
--- ---- columns, then rows
+-- columns, then rows
 
 module _ (x : List ℤ) {c s t : List (List Element)} (C : Rows (λ j i. number (column x j i)) c) (S : Rows (λ j. step (entry (row c j))) s)
     (T : Rows (λ u j. entry (row s j) u) t) where

@@ -19,7 +19,7 @@ use Rattle.elements.specs.Buffer.{entry, put}
 use Rattle.elements.proofs.Buffers.{getD-put}
 use Rattle.transform.specs.Step.{Rows, row}
 
--- ---- a loop over the 64 places, row by row
+-- a loop over the 64 places, row by row
 
 -- the rows l have eight places each, and the first n places hold elements of f
 pub record Grid (f : ℕ → ℕ → List ℤ) (n : ℕ) (l : List (List Element)) : Type 0 where
@@ -90,7 +90,7 @@ grid-all {f} {n} {l} h G = record { at = λ i b. record { at = λ j c. go i j b 
         let q : (8 * i + j) % 8 ≡ j = omega arith in
         rw (p, q) at (G .done (8 * i + j) (omega arith))
 
--- ---- the store of element after element
+-- the store of element after element
 
 pub filled-put : {m : ℕ} {f : ℕ → ℤ} {l : List ℤ} (p : ℕ) (u : List ℤ) → 8 * p + 8 ≤ m → Filled (pos 0) m f (8 * p) l → ((k : ℕ) → k < 8 → component u k ≡ f (8 * p + k))
     → Filled (pos 0) m f (8 * (p + 1)) (put l p u)

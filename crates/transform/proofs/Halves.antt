@@ -16,7 +16,7 @@ use Rattle.ring.proofs.Components.{Eight, eight-add, eight-scale}
 use Rattle.dct.specs.Transform.{factor, step, half-step}
 use Rattle.dct.proofs.Halves.{even-step, odd-step}
 use Rattle.elements.specs.declared.Element.{Element}
-use Rattle.elements.specs.Bound.{Within, room as bits}
+use Rattle.elements.specs.Bound.{Within, bits}
 use Rattle.elements.specs.Buffer.{Row, entry}
 use Rattle.elements.proofs.Bounds.{within-le, within-times}
 use Rattle.elements.proofs.Componentwise.{within-add, within-subtract}
@@ -60,7 +60,7 @@ module _ {d : List Element} (room : Room 4 28 d) (i j n k : ℕ) (t : T (ltb i 4
   pub room-difference : Within (bits 30) (subtract (mul (cosine (pos j)) (entry d i)) (mul (cosine (pos k)) (entry d n)))
   room-difference = room-subtract 29 first second
 
--- ---- an array that is written out
+-- an array that is written out
 
 pub row-4 : {f : ℕ → List ℤ} {a b c d : Element} → a .components ≡ f 0 → b .components ≡ f 1 → c .components ≡ f 2 → d .components ≡ f 3
     → Row 4 f (a ∷ b ∷ c ∷ d ∷ [])
@@ -84,7 +84,7 @@ row-8 {f} {a} {b} {c} {d} {e} {g} {h} {i} p q r s t u v w = record { at = go }
     go (suc (suc (suc zero))) l = s
     go (suc (suc (suc (suc k)))) l = row-4 {f = λ k. f (suc (suc (suc (suc k))))} {a = e} {b = g} {c = h} {d = i} t u v w .at k (omega arith)
 
--- ---- the sums and differences of a row
+-- the sums and differences of a row
 
 pub eights : {m n : ℕ} {x : List Element} → Room m n x → (i : ℕ) → i < m → Eight (entry x i)
 eights room i h = record { eight = room .eights i h }

@@ -1,4 +1,4 @@
--- Room for the sums of a step, its halves, grids of elements, what they make of a block, and the ways out of the job.
+-- The halves of a step and their room, grids of elements, what they make of a block, the ways out of the job, and what it leaves.
 pub mod Halves
 pub mod Grids
 pub mod Range

@@ -60,7 +60,7 @@ element-of x p h =
 pub magnitudes-of : (x : List ℤ) → AllInRange x → (p : ℕ) → p < places → magnitudes (element-at (elements-of x) p) ≤ magnitudes-limit
 magnitudes-of x range p h = rw (element-of x p h) (bound-8-by-8 (sample x) (bounded range) p)
 
--- ---- the buffer after an accepted call
+-- the buffer after an accepted call
 
 module _ (x e : List ℤ) (accepts : T (accepted (forward-returned x e))) where
   pub component-place : (u v k : ℕ) → u < 8 → v < 8 → k < 8

@@ -54,7 +54,7 @@ module _ (x e : List ℤ) where
       pub all-in-range : places ≤ i → AllInRange x
       all-in-range h = record { at = λ q l. not-false (in-range (sample x q)) (before-first places (faulty x) q (rw (← f) (omega arith))) }
 
--- ---- a call is accepted when the lengths are right and every sample is in range, and only then
+-- a call is accepted when the lengths are right and every sample is in range, and only then
 
 pub accepts : (x e : List ℤ) → length x ≡ places → length e ≡ components-size → AllInRange x → forward-returned x e ≡ accept
 unfolding forward-returned

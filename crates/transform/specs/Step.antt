@@ -5,13 +5,13 @@ use Prim.Native.Nat.{ℕ, _<_}
 use lib.IntN.{ℤ}
 use lib.ListN.{length, getD}
 use Rattle.elements.specs.declared.Element.{Element}
-use Rattle.elements.specs.Bound.{Within, room}
+use Rattle.elements.specs.Bound.{Within, bits}
 use Rattle.elements.specs.Buffer.{Row, entry}
 
 -- the m elements of a row have their eight components, none of which needs more than n bits, so that no sum of the step wraps
 pub record Room (m n : ℕ) (row : List Element) : Type 0 where
   pub eights : (i : ℕ) → i < m → length (entry row i) ≡ 8
-  pub within : (i : ℕ) → i < m → Within (room n) (entry row i)
+  pub within : (i : ℕ) → i < m → Within (bits n) (entry row i)
 
 -- row i of eight rows
 abbrev pub row : List (List Element) → ℕ → List Element

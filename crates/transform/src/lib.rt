@@ -4,10 +4,10 @@
 // cause. The work goes by columns, then rows: the columns of a block stand as eight rows of eight elements, a step goes over each, rows
 // and columns change places, and a step goes over each again. Nothing is rounded or shifted on the way.
 //
-// The 8-point step is factorised: sums and differences of the elements that lie as far from the one end of a row as from the other,
-// the even frequencies from the sums, by two more such levels, and the odd ones from the differences. It has 22 products with a cosine
+// The 8-point step is factorised: butterflies first, the sums x_n + x_(7-n) and the differences x_n - x_(7-n), n from 0 to 3; the even
+// frequencies from the sums, by two more levels of butterflies, and the odd ones from the differences. It has 22 products with a cosine
 // in place of 64, each of which is eight additions. 32 bits suffice: a step adds four bits to what its elements need, so that elements
-// of 27 bits still fit (`Room`), and samples of 12 bits need 20 after two steps.
+// of 27 bits besides the sign still fit (`Room`), and samples, of 12 such bits at most, need 20 after two steps.
 ghost use mathlib.Core.Path.{_≡_};
 ghost use mathlib.Core.Bool.{not};
 ghost use Prim.Native.Nat.{_%_, _*_, _+_, _-_, _/_, _<_};
@@ -19,7 +19,7 @@ ghost use Rattle.ring.specs.Element as ring;
 ghost use Rattle.dct.specs.Limits.{components-size, in-range, places};
 ghost use Rattle.dct.specs.Transform as dct;
 ghost use Rattle.answers.specs.Answer.{returned};
-ghost use Rattle.elements.specs.Bound.{Within, room};
+ghost use Rattle.elements.specs.Bound.{Within, bits};
 ghost use Rattle.elements.specs.Buffer.{Row, entry};
 ghost use Rattle.transform.specs.Forward.{forward-elements, forward-returned, sample};
 ghost use Rattle.transform.specs.Step.{Room, Rooms, Rows, row};
@@ -40,8 +40,8 @@ const HIGHEST_SAMPLE: i32 = 2047;
 
 // c_j × a + c_k × b
 fn sum_of_products(a: Element, j: usize, b: Element, k: usize) -> Element
-    requires { ⌜ Within (room 29) (a .components) ⌝ }
-    requires { ⌜ Within (room 29) (b .components) ⌝ }
+    requires { ⌜ Within (bits 29) (a .components) ⌝ }
+    requires { ⌜ Within (bits 29) (b .components) ⌝ }
     requires { ⌜ j < 8 ⌝ }
     requires { ⌜ k < 8 ⌝ }
     ensures { λ r. ⌜ r .components ≡ ring.add (ring.mul (ring.cosine (pos j)) (a .components)) (ring.mul (ring.cosine (pos k)) (b .components)) ⌝ }
@@ -51,8 +51,8 @@ fn sum_of_products(a: Element, j: usize, b: Element, k: usize) -> Element
 
 // c_j × a - c_k × b
 fn difference_of_products(a: Element, j: usize, b: Element, k: usize) -> Element
-    requires { ⌜ Within (room 29) (a .components) ⌝ }
-    requires { ⌜ Within (room 29) (b .components) ⌝ }
+    requires { ⌜ Within (bits 29) (a .components) ⌝ }
+    requires { ⌜ Within (bits 29) (b .components) ⌝ }
     requires { ⌜ j < 8 ⌝ }
     requires { ⌜ k < 8 ⌝ }
     ensures { λ r. ⌜ r .components ≡ ring.subtract (ring.mul (ring.cosine (pos j)) (a .components)) (ring.mul (ring.cosine (pos k)) (b .components)) ⌝ }
@@ -105,7 +105,7 @@ fn odd(d: [Element; 4]) -> [Element; 4]
     [e1, e3, e5, e7]
 }
 
-// The sums of the elements that lie as far from the one end of a row as from the other.
+// x_n + x_(7-n), for n from 0 to 3.
 fn sums(x: [Element; 8]) -> [Element; 4]
     requires { ⌜ Room 8 27 x ⌝ }
     ensures { λ r. ⌜ Row 4 (λ n. ring.add (entry x n) (entry x (7 - n))) r ⌝ }
@@ -119,7 +119,7 @@ fn sums(x: [Element; 8]) -> [Element; 4]
     r
 }
 
-// Their differences.
+// x_n - x_(7-n), for n from 0 to 3.
 fn differences(x: [Element; 8]) -> [Element; 4]
     requires { ⌜ Room 8 27 x ⌝ }
     ensures { λ r. ⌜ Row 4 (λ n. ring.subtract (entry x n) (entry x (7 - n))) r ⌝ }
@@ -220,7 +220,7 @@ fn first_outside(samples: &[i32]) -> usize
         }
         i += 1;
     }
-    PLACES
+    i
 }
 
 // The exact elements of a block of 64 samples, or the reason why there are none; then `elements` is as it was.

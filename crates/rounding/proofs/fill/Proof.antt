@@ -11,7 +11,7 @@ use Rattle.ring.specs.Element.{magnitudes}
 use Rattle.dct.specs.Limits.{places, magnitudes-limit}
 use Rattle.cuts.specs.Width.{coefficient}
 use Rattle.elements.specs.Buffer.{element-at}
-use Rattle.rounding.specs.Asked.{Allowed}
+use Rattle.rounding.specs.Preconditions.{Allowed}
 use Rattle.rounding.specs.Tables.{width, numbers}
 use Rattle.rounding.proofs.Sizes.{sized}
 use Rattle.rounding.proofs.Steps.{coefficient-kept}

@@ -56,7 +56,7 @@ returns-2 : tie.Need-returns-2 Inv-loop μ-loop
 returns-2 c =
     let i = c .before .loop .i in
     let all : i ≡ 64 = omega arith in
-    sym (first-none places _ (rw all at (c .before .loop .inv)))
+    all ∙ sym (first-none places _ (rw all at (c .before .loop .inv)))
 
 pub first-outside-spec : {M : Type 1} → statement M
 first-outside-spec =
