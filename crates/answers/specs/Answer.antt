@@ -4,7 +4,7 @@ use Prim.Native.Nat.{ℕ}
 use lib.Dec.{ltb, eqb}
 use Rattle.integers.specs.Search.{first}
 use Rattle.answers.specs.declared.Answer.{Answer}
-use Rattle.answers.specs.declared.Answer.the-variants.{Accepted, Lengths, Sample, Width, Magnitudes}
+use Rattle.answers.specs.declared.Answer.the-variants.{Accepted, Lengths, Sample, Width, Magnitudes, NoBlock}
 
 pub record Returned : Type 0 where
   pub number : ℕ
@@ -17,6 +17,7 @@ returned Lengths = record { number = 1; place = 0 }
 returned (Sample i) = record { number = 2; place = i }
 returned Width = record { number = 3; place = 0 }
 returned (Magnitudes p) = record { number = 4; place = p }
+returned NoBlock = record { number = 5; place = 0 }
 
 -- the order of causes: each is asked before the next
 

@@ -13,6 +13,8 @@ pub enum Answer {
     Width,
     // The magnitudes of the element of this number sum above the limit.
     Magnitudes(usize),
+    // No block in range has these elements.
+    NoBlock,
 }
 
 // 01's number of an answer.
@@ -25,6 +27,7 @@ pub fn number(a: Answer) -> u32
         Answer::Sample(_) => 2,
         Answer::Width => 3,
         Answer::Magnitudes(_) => 4,
+        Answer::NoBlock => 5,
     }
 }
 
@@ -38,5 +41,6 @@ pub fn place(a: Answer) -> usize
         Answer::Sample(i) => i,
         Answer::Width => 0,
         Answer::Magnitudes(p) => p,
+        Answer::NoBlock => 0,
     }
 }

@@ -10,7 +10,8 @@ use lib.Dec.{T, ltb→lt}
 use lib.IntN.{ℤ, pos, negsuc}
 use lib.Signed.{ltZ}
 use mir.Facts.{and-yes}
-use Rattle.integers.proofs.Tests.{every, every-at}
+use Rattle.integers.specs.Test.{every}
+use Rattle.integers.proofs.Tests.{every-at}
 use Rattle.ring.specs.Element.{component}
 use Rattle.cuts.specs.Fraction.{Fraction, whole}
 use Rattle.cuts.specs.Root.{root, below, above}

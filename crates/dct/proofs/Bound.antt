@@ -9,8 +9,9 @@ use native.Mathlib.Omega.{arith}
 use lib.Dec.{T, leb, leb→le}
 use lib.IntN.{ℤ, pos}
 use Rattle.integers.specs.Sum.{sum}
+use Rattle.integers.specs.Test.{every}
 use Rattle.integers.proofs.Sums.{naturals, sum-cong, sum-le, sum-times}
-use Rattle.integers.proofs.Tests.{every, every-at, every₂, every₂-at}
+use Rattle.integers.proofs.Tests.{every-at, every₂, every₂-at}
 use Rattle.ring.specs.Element.{scale, only, cosine, basis-product, mul, magnitudes}
 use Rattle.ring.proofs.Product.{mul-left}
 use Rattle.ring.proofs.Components.{Eight}

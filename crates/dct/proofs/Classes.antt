@@ -7,8 +7,9 @@ use Prim.Native.Nat.{ℕ, _<_}
 use lib.Dec.{T}
 use lib.IntN.{ℤ, pos, _+ℤ_, _*ℤ_, *ℤ-zero}
 use Rattle.integers.specs.Sum.{sum}
+use Rattle.integers.specs.Test.{every, eqZ}
 use Rattle.integers.proofs.Sums.{integers, sum-cong, sum-map, sum-none}
-use Rattle.integers.proofs.Tests.{every, every-at, every₂, every₂-at, eqZ, eqZ→≡}
+use Rattle.integers.proofs.Tests.{every-at, every₂, every₂-at, eqZ→≡}
 use Rattle.ring.specs.Element.{component, add, scale, cosine, mul}
 use Rattle.ring.proofs.Components.{component-add, component-scale}
 use Rattle.dct.specs.Transform.{angle, factor, double-sum, components-at, among}

@@ -1,24 +1,24 @@
--- Factorised forms of the step: sums, differences and products with cosines, in any order, of the elements of a row.
--- The value of such an expression is linear in the row, over the ring; so it is the plain sum if it is the factor at each row that has 1 at one
--- place and nothing elsewhere, which is computed.
+-- Factorised forms of the step and of its transpose: sums, differences and products with cosines, in any order, of the elements of a row.
+-- The value of such an expression is linear in the row, over the ring; so it is the plain sum of element n × g n if it is g n at each row that
+-- has 1 at place n and nothing elsewhere, which is computed.
 -- Assumes nothing.
 use mathlib.Core.Path.{_≡_, refl, sym, ap, ap₂, _∙_}
 use mathlib.Core.Bool.{Bool, cond, _&&_}
 use mathlib.Core.List.{List, []}
-use Prim.Native.Nat.{ℕ, _<_}
+use Prim.Native.Nat.{ℕ, zero, suc, _<_}
 use lib.Dec.{T, eqb, ltb, ltb→lt}
 use lib.IntN.{ℤ, pos, negsuc}
 use mir.Facts.{and-yes}
 use borrow.Author.Tests.{eq-eqb, ne-eqb}
 use Rattle.integers.specs.Sum.{sum}
+use Rattle.integers.specs.Test.{every, eqList}
 use Rattle.integers.proofs.Sums.{sum-cong, sum-plus, sum-only}
-use Rattle.integers.proofs.Tests.{every, every-at, eqList, eqList→≡}
+use Rattle.integers.proofs.Tests.{every-at, eqList→≡}
 use Rattle.ring.specs.Element.{add, scale, subtract, number, cosine, mul}
 use Rattle.ring.proofs.Linear.{LinearMap, elements, linear-sum, linear-scale, combine-nil}
 use Rattle.ring.proofs.Product.{mul-right, mul-comm, mul-assoc}
 use Rattle.ring.proofs.Components.{Eight}
 use Rattle.ring.proofs.Ring.{mul-one}
-use Rattle.dct.specs.Transform.{factor}
 
 -- element n of the row, e + f, e - f, and c_k × e
 pub data Expression : Type 0 where
@@ -44,9 +44,9 @@ reads m (times k e) = reads m e
 abbrev unit : ℕ → ℕ → List ℤ
 unit n j = cond (eqb j n) (number (pos 1)) []
 
--- it makes frequency k of the first m elements: a computed test
-abbrev pub makes : ℕ → ℕ → Expression → Bool
-makes m k e = reads m e && every m (λ n. eqList (value e (unit n)) (factor k n))
+-- it makes the sum over the first m elements of element n × g n: a computed test
+abbrev pub makes : ℕ → (ℕ → List ℤ) → Expression → Bool
+makes m g e = reads m e && every m (λ n. eqList (value e (unit n)) (g n))
 
 module _ (m : ℕ) (x : ℕ → List ℤ) (eights : (n : ℕ) → n < m → Eight (x n)) where
   -- the sum over the row of x n × g n
@@ -91,8 +91,19 @@ module _ (m : ℕ) (x : ℕ → List ℤ) (eights : (n : ℕ) → n < m → Eigh
       ∙ row-plus (λ n. value e (unit n)) (λ n. scale (negsuc 0) (value f (unit n)))
   linear (times k e) t = ap (mul (cosine (pos k))) (linear e t) ∙ row-times (cosine (pos k)) (λ n. value e (unit n))
 
-  pub plain-sum : (k : ℕ) (e : Expression) → T (makes m k e) → value e x ≡ sum [] add m (λ n. mul (x n) (factor k n))
+  pub plain-sum : (g : ℕ → List ℤ) (e : Expression) → T (makes m g e) → value e x ≡ sum [] add m (λ n. mul (x n) (g n))
   unfolding with-row
-  plain-sum k e t =
-      let (s, u) = and-yes (reads m e) (every m (λ n. eqList (value e (unit n)) (factor k n))) t in
-      linear e s ∙ sum-cong [] add m _ _ (λ n h. ap (mul (x n)) (eqList→≡ _ _ (every-at m (λ n. eqList (value e (unit n)) (factor k n)) u n h)))
+  plain-sum g e t =
+      let (s, u) = and-yes (reads m e) (every m (λ n. eqList (value e (unit n)) (g n))) t in
+      linear e s ∙ sum-cong [] add m _ _ (λ n h. ap (mul (x n)) (eqList→≡ _ _ (every-at m (λ n. eqList (value e (unit n)) (g n)) u n h)))
+
+-- the combination c_(a 0) × y 0 + ... + c_(a m) × y m as an expression
+abbrev pub combination : ℕ → (ℕ → ℕ) → (ℕ → Expression) → Expression
+combination zero a y = times (a zero) (y zero)
+combination (suc m) a y = plus (combination m a y) (times (a (suc m)) (y (suc m)))
+
+pub combination-value : (m : ℕ) (a : ℕ → ℕ) (y : ℕ → Expression) (x : ℕ → List ℤ)
+    → sum [] add (suc m) (λ n. mul (value (y n) x) (cosine (pos (a n)))) ≡ value (combination m a y) x
+unfolding sum
+combination-value zero a y x = mul-comm (value (y zero) x) (cosine (pos (a zero)))
+combination-value (suc m) a y x = ap₂ add (combination-value m a y x) (mul-comm (value (y (suc m)) x) (cosine (pos (a (suc m)))))

@@ -23,7 +23,7 @@ eight-factors zero p q = eight-only (pos 1) 0
 eight-factors (suc d) p q = eight-mul (eight-factors d (p / 8) (q / 8)) (eight-factor (p % 8) (q % 8))
 
 -- a block has at least one sample
-pub some-sample : (d : ℕ) → 0 < 8 ^ d
+some-sample : (d : ℕ) → 0 < 8 ^ d
 some-sample d = one-le-pow d 8 (zero-lt-suc 7)
 
 pub eight-element : (d : ℕ) (x : ℕ → ℤ) (p : ℕ) → Eight (element d x p)

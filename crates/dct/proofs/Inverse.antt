@@ -1,53 +1,73 @@
 -- The way back: the elements of a block, each times its factors at one place, sum to 16^d times the sample there. So a block is known by
--- its elements.
+-- its elements. For one dimension the same holds of a row of any elements, in place of samples.
 -- Assumes nothing.
 use mathlib.Core.Path.{_≡_, refl, sym, ap, _∙_}
 use mathlib.Core.List.{List, []}
 use Prim.Native.Nat.{ℕ, _^_, _<_}
 use native.Mathlib.Nat.{one-le-pow, zero-lt-suc}
-use lib.IntN.{ℤ, pos, _+ℤ_, _*ℤ_, *ℤ-comm, *ℤ-zero}
+use native.Mathlib.Omega.{arith}
+use lib.IntN.{ℤ, pos, _+ℤ_, _*ℤ_, zero-*ℤ}
 use Rattle.integers.specs.Sum.{sum}
 use Rattle.integers.proofs.Integer.{*ℤ-cancel}
-use Rattle.integers.proofs.Sums.{integers, sum-cong, sum-swap, sum-only, sum-map-some}
+use Rattle.integers.proofs.Sums.{integers, sum-cong, sum-map, sum-swap, sum-only}
 use Rattle.ring.specs.Element.{component, add, scale, number, mul}
-use Rattle.ring.proofs.Linear.{elements, linear-sum, linear-scale}
-use Rattle.ring.proofs.Product.{mul-left}
-use Rattle.ring.proofs.Ring.{scale-number}
-use Rattle.dct.specs.Inverse.{summed-back, gram, delta}
-use Rattle.dct.specs.Transform.{factors, element}
-use Rattle.dct.proofs.Factors.{some-sample}
-use Rattle.dct.proofs.Orthogonal.{delta-same, delta-other, orthogonal}
+use Rattle.ring.proofs.Linear.{elements, linear-sum}
+use Rattle.ring.proofs.Product.{mul-left, mul-right, mul-comm, mul-assoc}
+use Rattle.ring.proofs.Components.{Eight, eight-only, eight-scale, eight-sum, component-add, component-scale, same-components}
+use Rattle.ring.proofs.Ring.{mul-number, scale-number}
+use Rattle.dct.specs.Inverse.{summed-back, gram, delta, step-back}
+use Rattle.dct.specs.Transform.{factor, factors, element, step}
+use Rattle.dct.proofs.Factors.{eight-factors}
+use Rattle.dct.proofs.Orthogonal.{delta-same, delta-other, row-gram, row-gram-is, orthogonal}
 
--- each sample, times what the factors of its place and of place r give
-summed-back-samples : (d : ℕ) (x : ℕ → ℤ) (r : ℕ) → summed-back d (element d x) r ≡ sum [] add (8 ^ d) (λ q. scale (x q) (gram d q r))
-unfolding summed-back element gram
-summed-back-samples d x r =
-    sum-cong [] add n _ (λ p. sum [] add n (term p)) (λ p h. by-samples p) ∙ sum-swap [] add elements n n term
-    ∙ sum-cong [] add n _ _ (λ q h. sym (linear-sum (scale (x q)) (linear-scale (x q)) n (λ p. mul (factors d p q) (factors d p r))))
-  where
-    n : ℕ
-    n = 8 ^ d
+-- a matrix t that is orthogonal as the factors are: it takes elements x to others, and its transpose takes these to 16^d × x
+module _ (d n : ℕ) (t : ℕ → ℕ → List ℤ) (gram-is : (q r : ℕ) → q < n → r < n → sum [] add n (λ p. mul (t p q) (t p r)) ≡ number (delta d q r))
+    (x : ℕ → List ℤ) (eights : (q : ℕ) → q < n → Eight (x q)) (r : ℕ) (h : r < n) where
+  term : ℕ → ℕ → List ℤ
+  term p q = mul (x q) (mul (t p q) (t p r))
 
-    term : ℕ → ℕ → List ℤ
-    term p q = scale (x q) (mul (factors d p q) (factors d p r))
+  forth : (p : ℕ) → mul (sum [] add n (λ q. mul (x q) (t p q))) (t p r) ≡ sum [] add n (term p)
+  unfolding term
+  forth p =
+      linear-sum (λ a. mul a (t p r)) (mul-left (t p r)) n (λ q. mul (x q) (t p q)) ∙ sum-cong [] add n _ _ (λ q k. mul-assoc (x q) (t p q) (t p r))
 
-    by-samples : (p : ℕ) → mul (sum [] add n (λ q. scale (x q) (factors d p q))) (factors d p r) ≡ sum [] add n (term p)
-    by-samples p =
-        linear-sum (λ a. mul a (factors d p r)) (mul-left (factors d p r)) n (λ q. scale (x q) (factors d p q))
-        ∙ sum-cong [] add n _ _ (λ q h. mul-left (factors d p r) .multiples (x q) (factors d p q))
+  -- element q, times what t gives for places q and r
+  weighed : ℕ → List ℤ
+  weighed q = scale (delta d q r) (x q)
 
+  gathered : (q : ℕ) → q < n → sum [] add n (λ p. term p q) ≡ weighed q
+  unfolding term weighed
+  gathered q k =
+      sym (linear-sum (mul (x q)) (mul-right (x q)) n (λ p. mul (t p q) (t p r)))
+      ∙ ap (mul (x q)) (gram-is q r k h) ∙ mul-comm (x q) (number (delta d q r)) ∙ mul-number (delta d q r) (eights q k)
+
+  component-at : (k : ℕ) → component (sum [] add n weighed) k ≡ component (scale (pos (16 ^ d)) (x r)) k
+  unfolding weighed
+  component-at k =
+      sum-map [] add (pos 0) _+ℤ_ (λ a. component a k) refl (λ a b. component-add a b k) n weighed
+      ∙ sum-only (pos 0) _+ℤ_ integers n (λ q. component (weighed q) k) r h
+      (λ q l o. component-scale (delta d q r) (x q) k ∙ rw (delta-other d q r o) (zero-*ℤ (component (x q) k)))
+      ∙ ap (λ s. component (scale s (x r)) k) (delta-same d r r refl)
+
+  forth-and-back : sum [] add n (λ p. mul (sum [] add n (λ q. mul (x q) (t p q))) (t p r)) ≡ scale (pos (16 ^ d)) (x r)
+  unfolding weighed
+  forth-and-back =
+      sum-cong [] add n _ (λ p. sum [] add n (term p)) (λ p k. forth p) ∙ sum-swap [] add elements n n term ∙ sum-cong [] add n _ weighed gathered
+      ∙ same-components (eight-sum n weighed (omega arith) (λ q k. eight-scale (delta d q r) (eights q k))) (eight-scale (pos (16 ^ d)) (eights r h))
+      (λ k l. component-at k)
+
+-- a row of elements
+pub row-inverse : (x : ℕ → List ℤ) → ((n : ℕ) → n < 8 → Eight (x n)) → (n : ℕ) → n < 8 → step-back (step x) n ≡ scale (pos 16) (x n)
+unfolding step-back step row-gram
+row-inverse x eights n h = forth-and-back 1 8 factor row-gram-is x eights n h
+
+-- a block of samples
 pub inverse : (d : ℕ) (x : ℕ → ℤ) (r : ℕ) → r < 8 ^ d → summed-back d (element d x) r ≡ number (pos (16 ^ d) *ℤ x r)
+unfolding summed-back element gram
 inverse d x r h =
-    summed-back-samples d x r
-    ∙ sum-cong [] add (8 ^ d) _ (λ q. number (term q)) (λ q k. ap (scale (x q)) (orthogonal d q r k h) ∙ scale-number (x q) (delta d q r))
-    ∙ sym (sum-map-some (pos 0) _+ℤ_ integers [] add elements number (λ a b. refl) (8 ^ d) term (some-sample d))
-    ∙ ap number (sum-only (pos 0) _+ℤ_ integers (8 ^ d) term r h (λ q k n. ap (λ z. x q *ℤ z) (delta-other d q r n) ∙ *ℤ-zero (x q)) ∙ at-r)
-  where
-    term : ℕ → ℤ
-    term q = x q *ℤ delta d q r
-
-    at-r : term r ≡ pos (16 ^ d) *ℤ x r
-    at-r = ap (λ z. x r *ℤ z) (delta-same d r r refl) ∙ *ℤ-comm (x r) (pos (16 ^ d))
+    sum-cong [] add (8 ^ d) _ _
+    (λ p k. ap (λ a. mul a (factors d p r)) (sum-cong [] add (8 ^ d) _ _ (λ q l. sym (mul-number (x q) (eight-factors d p q)))))
+    ∙ forth-and-back d (8 ^ d) (factors d) (orthogonal d) (λ q. number (x q)) (λ q k. eight-only (x q) 0) r h ∙ scale-number (pos (16 ^ d)) (x r)
 
 -- two blocks with the same elements are the same block
 pub unique : (d : ℕ) (x y : ℕ → ℤ) → ((p : ℕ) → p < 8 ^ d → element d x p ≡ element d y p) → (r : ℕ) → r < 8 ^ d → x r ≡ y r

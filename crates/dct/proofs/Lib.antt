@@ -7,3 +7,4 @@ pub mod Dimensions
 pub mod Classes
 pub mod Factorised
 pub mod Halves
+pub mod HalvesBack

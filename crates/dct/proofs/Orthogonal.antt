@@ -11,8 +11,9 @@ use lib.Dec.{T}
 use lib.IntN.{ℤ, pos, _*ℤ_, zero-*ℤ, *ℤ-zero}
 use borrow.Author.Tests.{eq-eqb, ne-eqb}
 use Rattle.integers.specs.Sum.{sum}
+use Rattle.integers.specs.Test.{eqList}
 use Rattle.integers.proofs.Sums.{sum-cong}
-use Rattle.integers.proofs.Tests.{every₂, every₂-at, eqList, eqList→≡}
+use Rattle.integers.proofs.Tests.{every₂, every₂-at, eqList→≡}
 use Rattle.ring.specs.Element.{add, number, cosine, mul}
 use Rattle.ring.proofs.Linear.{elements, linear-sum}
 use Rattle.ring.proofs.Product.{mul-left, mul-right, mul-swap}
@@ -50,7 +51,7 @@ delta-suc d q r = go (ℕ-discrete (q / 8) (r / 8)) (ℕ-discrete (q % 8) (r % 8
 -- one dimension
 
 -- the sum over all frequencies k of t(k,n) × t(k,m)
-row-gram : ℕ → ℕ → List ℤ
+unfoldable pub row-gram : ℕ → ℕ → List ℤ
 row-gram n m = sum [] add 8 (λ k. mul (factor k n) (factor k m))
 
 row-gram-at : ℕ → ℕ → Bool
@@ -60,7 +61,7 @@ row-gram-test : T (every₂ 8 row-gram-at)
 unfolding sum row-gram-at delta angle-product cosine
 row-gram-test = tt
 
-row-gram-is : (n m : ℕ) → n < 8 → m < 8 → row-gram n m ≡ number (delta 1 n m)
+pub row-gram-is : (n m : ℕ) → n < 8 → m < 8 → row-gram n m ≡ number (delta 1 n m)
 unfolding row-gram row-gram-at
 row-gram-is n m h k = sum-cong [] add 8 _ _ (λ k l. factor-product k n k m) ∙ eqList→≡ _ _ (every₂-at 8 row-gram-at row-gram-test n m h k)
 

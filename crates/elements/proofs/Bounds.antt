@@ -1,32 +1,36 @@
--- Bounds on components: how far a product with c_k lets them grow, which is to twice the bound, and what they give the code's own sums.
+-- Bounds on components: how far a product with c_m lets them grow, which is to twice the bound, and what they give the code's own sums.
 -- `Componentwise` has sums and differences, which add the bounds.
 -- Assumes nothing.
 use mathlib.Core.Path.{_≡_}
 use mathlib.Core.Bool.{Bool, true, false, cond}
 use mathlib.Core.List.{List}
-use Prim.Native.Nat.{ℕ, _+_, _-_, _≤_, _<_, zero-le}
-use native.Mathlib.Nat.{le-refl, le-trans, add-le-add}
+use Prim.Native.Nat.{ℕ, _+_, _-_, _%_, _≤_, _<_, zero-le}
+use native.Mathlib.Nat.{le-refl, le-trans}
 use native.Mathlib.Decide.{decLt}
 use native.Mathlib.Omega.{arith}
-use lib.Dec.{eqb, ltb, lit<}
-use lib.IntN.{ℤ, pos, _+ℤ_, negℤ, natAbs}
+use lib.Dec.{T, eqb, ltb, leb, leb→le, lit<}
+use lib.IntN.{ℤ, pos, negℤ, natAbs}
 use lib.ListN.{List·getD-eq-default}
 use mir.Syntax.{w32}
 use mir.Val.{SFits, ofZ, toZ}
+use Rattle.integers.specs.Sum.{sum}
 use Rattle.integers.specs.Table.{table}
+use Rattle.integers.specs.Test.{every}
 use Rattle.integers.proofs.Signed.{op-fits, op-kept}
-use Rattle.integers.proofs.Magnitudes.{natAbs-neg, natAbs-add}
+use Rattle.integers.proofs.Magnitudes.{natAbs-neg}
 use Rattle.integers.proofs.Tables.{length-table, getD-table}
-use Rattle.ring.specs.Element.{component, only, cosine, mul}
-use Rattle.ring.proofs.Components.{Eight}
+use Rattle.integers.proofs.Tests.{every-at}
+use Rattle.ring.specs.Element.{component, only, full-turn, cosine, basis-product, mul}
+use Rattle.ring.proofs.Product.{mul-right}
+use Rattle.ring.proofs.Components.{Eight, eight-cosine, eight-mul, form-component, by-components}
+use Rattle.ring.proofs.Magnitude.{form-bound}
 use Rattle.elements.specs.Bound.{Within, headroom}
 use Rattle.elements.specs.Continued.{continued}
-use Rattle.elements.proofs.Products.{product-table}
 
 pub within-le : {A B : ℕ} {a : List ℤ} → A ≤ B → Within A a → Within B a
 within-le h w = record { within = λ k. le-trans (w .within k) h }
 
-within-table : (B n : ℕ) (f : ℕ → ℤ) → ((k : ℕ) → k < n → natAbs (f k) ≤ B) → Within B (table n f)
+pub within-table : (B n : ℕ) (f : ℕ → ℤ) → ((k : ℕ) → k < n → natAbs (f k) ≤ B) → Within B (table n f)
 within-table B n f h = record { within = λ k. go k (decLt k n) }
   where
     go : (k : ℕ) → Dec (k < n) → natAbs (component (table n f) k) ≤ B
@@ -47,10 +51,24 @@ within-continued {B} {a} w j =
     within-cond B (ltb j 7) (component a (7 - j)) _ (w .within (7 - j))
     (within-cond B (ltb j 16) (component a (j - 7)) (negℤ (component a (23 - j))) (w .within (j - 7)) (rw (natAbs-neg (component a (23 - j))) (w .within (23 - j))))
 
-pub within-times : {B : ℕ} {a : List ℤ} (k : ℕ) → k < 8 → Eight a → Within B a → Within (B + B) (mul (cosine (pos k)) a)
-within-times {B} {a} k h e w =
-    rw (product-table k h e) (within-table (B + B) 8 (λ i. continued a (7 + i - k) +ℤ continued a (7 + i + k))
-    (λ i l. le-trans (natAbs-add (continued a (7 + i - k)) (continued a (7 + i + k))) (add-le-add (within-continued w (7 + i - k)) (within-continued w (7 + i + k)))))
+-- the magnitudes that component i of c_m × 1 and of c_m × c_1 to c_m × c_7 has, summed: two at most, for m from 0 to 31
+spread-at : ℕ → ℕ → Bool
+spread-at m i = leb (sum 0 _+_ 8 (λ k. natAbs (component (mul (full-turn m) (only (pos 1) k)) i))) 2
+
+spread-test : T (every 32 (λ m. every 8 (spread-at m)))
+unfolding spread-at sum cosine basis-product mul
+spread-test = tt
+
+pub within-cosine : (m : ℤ) {B : ℕ} {a : List ℤ} → Eight a → Within B a → Within (B + B) (mul (cosine m) a)
+unfolding spread-at cosine
+within-cosine m {B} {a} e w = rw (by-components (eight-mul (eight-cosine m) e)) (within-table (B + B) 8 (component (mul (cosine m) a)) at-most)
+  where
+    at-most : (i : ℕ) → i < 8 → natAbs (component (mul (cosine m) a) i) ≤ B + B
+    at-most i h =
+        let r = natAbs m % 32 in
+        let spread = leb→le _ 2 (every-at 8 (spread-at r) (every-at 32 (λ n. every 8 (spread-at n)) spread-test r (omega arith)) i h) in
+        let form = form-component (mul (cosine m)) (mul-right (cosine m)) i in
+        omega (arith, form-bound (λ b. component (mul (cosine m) b) i) form B 2 spread e (w .within))
 
 -- the code's own sums and differences of two components, read from the bits of an i32
 

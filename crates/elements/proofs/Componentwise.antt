@@ -2,15 +2,17 @@
 -- Assumes nothing.
 use mathlib.Core.Path.{_≡_, ap, _∙_}
 use mathlib.Core.Bool.{cond}
-use mathlib.Core.List.{List}
-use Prim.Native.Nat.{ℕ, _+_, _≤_, _<_}
-use native.Mathlib.Nat.{le-trans, add-le-add}
+use mathlib.Core.List.{List, []}
+use Prim.Native.Nat.{ℕ, zero, suc, _+_, _*_, _≤_, _<_, zero-le}
+use native.Mathlib.Nat.{le-trans, add-le-add, suc-mul}
 use native.Mathlib.Decide.{ℕ-discrete}
+use native.Mathlib.Omega.{arith}
 use lib.Dec.{eqb}
 use lib.IntN.{ℤ, pos, negsuc, _+ℤ_, _-ℤ_, natAbs}
 use lib.ListN.{set, length-set, replicate, getD-replicate}
 use lib.Seq.{getD-set-same, getD-set-other}
 use borrow.Author.Tests.{eq-eqb, ne-eqb}
+use Rattle.integers.specs.Sum.{sum}
 use Rattle.integers.specs.Table.{table}
 use Rattle.integers.proofs.Integer.{minus-one-*ℤ}
 use Rattle.integers.proofs.Magnitudes.{natAbs-add, natAbs-sub}
@@ -43,6 +45,11 @@ within-add = grows add _+ℤ_ component-add natAbs-add
 
 pub within-subtract : {A B : ℕ} {a b : List ℤ} → Within A a → Within B b → Within (A + B) (subtract a b)
 within-subtract = grows subtract _-ℤ_ component-subtract natAbs-sub
+
+pub within-sum : (n B : ℕ) (f : ℕ → List ℤ) → ((k : ℕ) → k < n → Within B (f k)) → Within (n * B) (sum [] add n f)
+unfolding sum
+within-sum zero B f h = record { within = λ k. zero-le }
+within-sum (suc n) B f h = rw (suc-mul n B) (within-add (within-sum n B f (λ k l. h k (omega arith))) (h n (omega arith)))
 
 -- one store into eight zeros
 pub set-only : (s : ℤ) (k : ℕ) → k < 8 → set (replicate 8 (pos 0)) k s ≡ only s k

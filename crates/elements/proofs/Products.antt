@@ -9,8 +9,9 @@ use lib.Dec.{T, ltb}
 use lib.IntN.{ℤ, pos, _+ℤ_, negℤ}
 use borrow.Author.Tests.{lt-ltb, le-ltb}
 use Rattle.integers.specs.Table.{table}
+use Rattle.integers.specs.Test.{eqZ}
 use Rattle.integers.proofs.Tables.{is-table}
-use Rattle.integers.proofs.Tests.{every₃, every₃-at, eqZ, eqZ→≡}
+use Rattle.integers.proofs.Tests.{every₃, every₃-at, eqZ→≡}
 use Rattle.ring.specs.Element.{component, only, cosine, basis-product, mul}
 use Rattle.ring.proofs.Linear.{LinearForm, linear-self}
 use Rattle.ring.proofs.Product.{mul-right}

@@ -3,7 +3,7 @@
 //
 // A component is an i32. `add`, `subtract` and `times` ask that no component of what they take is above `headroom` in magnitude, so that
 // no sum of two can wrap. A sum or a difference at most adds the bounds of its operands (`within-add`, `within-subtract`), and a product
-// with c_k doubles its operand's (`within-times`): a caller that knows a bound at the start knows one at each step.
+// with c_k doubles its operand's (`within-cosine`): a caller that knows a bound at the start knows one at each step.
 ghost use mathlib.Core.Path.{_≡_};
 ghost use Prim.Native.Nat.{_*_, _+_, _<_, _≤_};
 ghost use lib.IntN.{pos};

@@ -11,9 +11,10 @@ use lib.IntN.{ℤ, pos, _*ℤ_, *ℤ-zero}
 use borrow.Author.Tests.{eq-eqb, ne-eqb}
 use Rattle.integers.specs.Sum.{sum}
 use Rattle.integers.specs.Table.{table}
+use Rattle.integers.specs.Test.{eqList}
 use Rattle.integers.proofs.Sums.{sum-cong}
 use Rattle.integers.proofs.Tables.{getD-table, length-table, is-table}
-use Rattle.integers.proofs.Tests.{every₂, every₂-at, eqList, eqList→≡}
+use Rattle.integers.proofs.Tests.{every₂, every₂-at, eqList→≡}
 use Rattle.ring.specs.Element.{component, add, scale, number, cosine, basis-product, mul}
 use Rattle.ring.proofs.Linear.{linear-sum, linear-scale}
 use Rattle.ring.proofs.Product.{mul-left, mul-right}

@@ -7,7 +7,7 @@ use native.Mathlib.Nat.{lt-of-le-of-lt, lt-trans}
 use native.Mathlib.Omega.{arith}
 use lib.Dec.{lit<}
 use lib.IntN.{ℤ, pos, _-ℤ_, negℤ, natAbs, +ℤ-idl}
-use lib.Signed.{natAbs-le}
+use lib.Signed.{shrZ, mag-shr, natAbs-le}
 use mir.Syntax.{Width, w32, w64}
 use mir.Val.{Fits, SFits, hbits, ofZ, toZ}
 use mir.ValLaws.{toZ-ofZ}
@@ -15,6 +15,10 @@ use Rattle.integers.proofs.Magnitudes.{natAbs-sub, small-fits}
 
 pub kept : (w : Width) (z : ℤ) → natAbs z < 2 ^ hbits w → toZ w (ofZ w z) ≡ z
 kept w z h = toZ-ofZ w z (small-fits w z h)
+
+-- divided by m and rounded down, as a shift does it
+pub shift-kept : (w : Width) (z : ℤ) (m : ℕ) → SFits w z → toZ w (ofZ w (shrZ (toZ w (ofZ w z)) m)) ≡ shrZ z m
+shift-kept w z m h = rw (toZ-ofZ w z h) (toZ-ofZ w (shrZ z m) (record { sfits = lt-of-le-of-lt (mag-shr z m) (h .sfits) }))
 
 -- a sum or a difference, of operands that are at most half of the range
 

@@ -85,17 +85,6 @@ module _ {A : Type 0} (none : A) (plus : A → A → A) (M : CommutativeMonoid n
           rw (sum-cong none plus n f (λ k. none) (λ k b. z k (omega arith) (λ e. omega arith)), sum-none n, p) (M .unit (f n))
       go (no q) rest = rw (rest (omega arith), z n (omega arith) (λ e. omega arith)) (unit-right (f r))
 
--- a map that keeps sums of two keeps a sum of at least one term, whatever it does to `none`
-module _ {A B : Type 0} (none : A) (plus : A → A → A) (M : CommutativeMonoid none plus)
-    (none′ : B) (plus′ : B → B → B) (M′ : CommutativeMonoid none′ plus′) where
-  pub sum-map-some : (h : A → B) → ((a b : A) → h (plus a b) ≡ plus′ (h a) (h b))
-      → (n : ℕ) (f : ℕ → A) → 0 < n → h (sum none plus n f) ≡ sum none′ plus′ n (λ k. h (f k))
-  unfolding sum
-  sum-map-some h p zero f l = absurd (not-suc-le-zero l)
-  sum-map-some h p (suc zero) f l = ap h (M .unit (f zero)) ∙ sym (M′ .unit (h (f zero)))
-  sum-map-some h p (suc (suc n)) f l =
-      p (sum none plus (suc n) f) (f (suc n)) ∙ ap (λ x. plus′ x (h (f (suc n)))) (sum-map-some h p (suc n) f (omega arith))
-
 -- sums of naturals
 
 pub sum-times : (n s : ℕ) (f : ℕ → ℕ) → s * sum 0 _+_ n f ≡ sum 0 _+_ n (λ k. s * f k)

@@ -8,16 +8,21 @@ use Prim.Native.Nat.{ℕ, zero, suc, _<_}
 use native.Mathlib.Nat.{not-suc-le-zero}
 use native.Mathlib.Decide.{ℕ-discrete}
 use native.Mathlib.Omega.{arith}
-use lib.Dec.{T, eqb, eqb→eq}
+use lib.Dec.{T, eqb→eq, eqb-refl}
 use lib.IntN.{ℤ, pos, negsuc}
-use mir.Facts.{and-yes}
+use mir.Facts.{and-yes, yes-and}
+use Rattle.integers.specs.Test.{every, eqZ, eqList}
+
+-- what a test is, by what it passes for
+
+pub holds : (t : Bool) → T t → t ≡ true
+holds true h = refl
+
+pub fails : (t : Bool) → (T t → ⊥) → t ≡ false
+fails true h = absurd (h tt)
+fails false h = refl
 
 -- ranges
-
--- the test f passes at each number below n
-abbrev pub every : ℕ → (ℕ → Bool) → Bool
-every zero f = true
-every (suc n) f = f n && every n f
 
 pub every-at : (n : ℕ) (f : ℕ → Bool) → T (every n f) → (i : ℕ) → i < n → T (f i)
 every-at zero f t i h = absurd (not-suc-le-zero h)
@@ -26,6 +31,10 @@ every-at (suc n) f t i h = go (ℕ-discrete i n) (every-at n f (and-yes (f n) (e
     go : Dec (i ≡ n) → (i < n → T (f i)) → T (f i)
     go (yes p) rest = rw p (and-yes (f n) (every n f) t .0)
     go (no q) rest = rest (omega arith)
+
+pub every-passes : (n : ℕ) (f : ℕ → Bool) → ((i : ℕ) → i < n → T (f i)) → T (every n f)
+every-passes zero f h = tt
+every-passes (suc n) f h = yes-and (f n) (every n f) (h n (omega arith)) (every-passes n f (λ i l. h i (omega arith)))
 
 -- two numbers, and three
 abbrev pub every₂ : ℕ → (ℕ → ℕ → Bool) → Bool
@@ -42,26 +51,22 @@ every₃-at n f t i j k h l m = every₂-at n (f i) (every-at n (λ i. every₂ 
 
 -- equality
 
-abbrev pub eqZ : ℤ → ℤ → Bool
-eqZ (pos a) (pos b) = eqb a b
-eqZ (pos a) (negsuc b) = false
-eqZ (negsuc a) (pos b) = false
-eqZ (negsuc a) (negsuc b) = eqb a b
-
 pub eqZ→≡ : (a b : ℤ) → T (eqZ a b) → a ≡ b
 eqZ→≡ (pos a) (pos b) t = ap pos (eqb→eq a b t)
 eqZ→≡ (pos a) (negsuc b) t = absurd t
 eqZ→≡ (negsuc a) (pos b) t = absurd t
 eqZ→≡ (negsuc a) (negsuc b) t = ap negsuc (eqb→eq a b t)
 
-abbrev pub eqList : List ℤ → List ℤ → Bool
-eqList [] [] = true
-eqList [] (y ∷ b) = false
-eqList (x ∷ a) [] = false
-eqList (x ∷ a) (y ∷ b) = eqZ x y && eqList a b
-
 pub eqList→≡ : (a b : List ℤ) → T (eqList a b) → a ≡ b
 eqList→≡ [] [] t = refl
 eqList→≡ [] (y ∷ b) t = absurd t
 eqList→≡ (x ∷ a) [] t = absurd t
 eqList→≡ (x ∷ a) (y ∷ b) t = ap₂ _∷_ (eqZ→≡ x y (and-yes (eqZ x y) (eqList a b) t .0)) (eqList→≡ a b (and-yes (eqZ x y) (eqList a b) t .1))
+
+eqZ-refl : (a : ℤ) → T (eqZ a a)
+eqZ-refl (pos a) = eqb-refl a
+eqZ-refl (negsuc a) = eqb-refl a
+
+pub eqList-refl : (a : List ℤ) → T (eqList a a)
+eqList-refl [] = tt
+eqList-refl (x ∷ a) = yes-and (eqZ x x) (eqList a a) (eqZ-refl x) (eqList-refl a)

@@ -1,3 +1,4 @@
 pub mod Search
 pub mod Sum
 pub mod Table
+pub mod Test

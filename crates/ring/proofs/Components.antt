@@ -13,9 +13,10 @@ use lib.Seq.{ext-getD}
 use borrow.Author.Tests.{lt-ltb}
 use Rattle.integers.specs.Sum.{sum}
 use Rattle.integers.specs.Table.{table}
+use Rattle.integers.specs.Test.{every, eqList}
 use Rattle.integers.proofs.Integer.{*ℤ-pos1}
 use Rattle.integers.proofs.Tables.{is-table}
-use Rattle.integers.proofs.Tests.{every, every-at, eqList, eqList→≡}
+use Rattle.integers.proofs.Tests.{every-at, eqList→≡}
 use Rattle.ring.specs.Element.{component, add, scale, only, full-turn, cosine, by-rule, basis-product, combine, mul}
 use Rattle.ring.proofs.Linear.{Linear, LinearMap, LinearForm, linear-agree, add-nil}
 

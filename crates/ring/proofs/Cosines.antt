@@ -8,8 +8,9 @@ use native.Mathlib.Decide.{decLe}
 use native.Mathlib.Omega.{arith}
 use lib.Dec.{T}
 use lib.IntN.{ℤ, pos, negsuc, _+ℤ_, _-ℤ_, negℤ, +ℤ-comm, +ℤ-assoc, +ℤ-negℤ-cancel, +ℤ-invr, negℤ-+ℤ, negℤ-negℤ}
+use Rattle.integers.specs.Test.{eqList}
 use Rattle.integers.proofs.Integer.{sub-sub}
-use Rattle.integers.proofs.Tests.{every₂, every₂-at, eqList, eqList→≡}
+use Rattle.integers.proofs.Tests.{every₂, every₂-at, eqList→≡}
 use Rattle.ring.specs.Element.{add, negate, subtract, number, full-turn, cosine, basis-product, mul}
 use Rattle.ring.proofs.Linear.{add-comm, scale-scale, scale-one}
 use Rattle.ring.proofs.Product.{cosine-neg, cosine-difference, mul-comm}

@@ -1,17 +1,17 @@
--- The sum of the magnitudes of an element's components.
+-- The sum of the magnitudes of an element's components, and how large a linear form can get where no component is large.
 -- Assumes nothing.
 use mathlib.Core.Path.{_≡_, refl, sym, ap, _∙_}
 use mathlib.Core.List.{List, [], _∷_}
-use Prim.Native.Nat.{ℕ, zero, suc, _+_, _*_, _≤_, _<_}
-use native.Mathlib.Nat.{le-refl, le-of-eq, mul-add, mul-zero, mul-le-mul-left}
+use Prim.Native.Nat.{ℕ, zero, suc, _+_, _*_, _≤_, _<_, zero-le}
+use native.Mathlib.Nat.{le-refl, le-trans, le-of-eq, mul-add, mul-zero, mul-le-mul-left, mul-le-mul-right}
 use native.Mathlib.Omega.{arith}
-use lib.IntN.{ℤ, pos, natAbs}
+use lib.IntN.{ℤ, pos, _*ℤ_, natAbs}
 use lib.ListN.{length}
 use Rattle.integers.specs.Sum.{sum}
 use Rattle.integers.proofs.Magnitudes.{natAbs-add, natAbs-mul}
 use Rattle.integers.proofs.Sums.{naturals, sum-cong, sum-first, sum-le, sum-none, sum-plus, sum-times}
 use Rattle.ring.specs.Element.{component, add, scale, only, combine, magnitudes}
-use Rattle.ring.proofs.Linear.{LinearMap, linear-combine}
+use Rattle.ring.proofs.Linear.{LinearMap, LinearForm, linear-combine}
 use Rattle.ring.proofs.Components.{Eight, expand}
 
 -- the magnitudes summed from the front, component by component
@@ -80,3 +80,23 @@ module _ (n C : ℕ) where
     where
       spread : (i : ℕ) → L i a ≡ combine (λ k. L i (only (pos 1) k)) a
       spread i = ap (L i) (sym (expand e)) ∙ linear-combine (L i) (l i) (only (pos 1)) a
+
+-- a linear form: where no component of a has a magnitude above B, and the form's values at 1 and at c_1 to c_7 have magnitudes that sum to C at
+-- most, its value at a has at most B times C
+module _ (φ : List ℤ → ℤ) (l : LinearForm φ) (B C : ℕ) where
+  form-combine : (f : ℕ → List ℤ) (a : List ℤ) → ((k : ℕ) → natAbs (component a k) ≤ B)
+      → natAbs (φ (combine f a)) ≤ B * sum 0 _+_ (length a) (λ k. natAbs (φ (f k)))
+  form-combine f [] h = rw (l .nil) zero-le
+  form-combine f (x ∷ a) h =
+      let rest = combine (λ k. f (suc k)) a in
+      rw (l .sums (scale x (f zero)) rest, l .multiples x (f zero), sum-first (length a) (λ k. natAbs (φ (f k))))
+      (omega (
+        arith,
+        natAbs-add (x *ℤ φ (f zero)) (φ rest),
+        natAbs-mul x (φ (f zero)),
+        mul-le-mul-right (natAbs (φ (f zero))) (h zero),
+        form-combine (λ k. f (suc k)) a (λ k. h (suc k)),
+      ))
+
+  pub form-bound : sum 0 _+_ 8 (λ k. natAbs (φ (only (pos 1) k))) ≤ C → {a : List ℤ} → Eight a → ((k : ℕ) → natAbs (component a k) ≤ B) → natAbs (φ a) ≤ B * C
+  form-bound small {a} e h = le-trans (rw (e .eight, expand e) at (form-combine (only (pos 1)) a h)) (mul-le-mul-left B small)

@@ -9,10 +9,11 @@ use native.Mathlib.Omega.{arith}
 use lib.Dec.{T, ltb}
 use lib.IntN.{ℤ, pos, _-ℤ_, negℤ, +ℤ-comm}
 use borrow.Author.Tests.{le-ltb}
+use Rattle.integers.specs.Test.{eqList}
 use Rattle.integers.proofs.Integer.{negℤ-sub}
 use Rattle.integers.proofs.Magnitudes.{natAbs-neg}
 use Rattle.integers.proofs.Sums.{swap}
-use Rattle.integers.proofs.Tests.{every₃, every₃-at, eqList, eqList→≡}
+use Rattle.integers.proofs.Tests.{every₃, every₃-at, eqList→≡}
 use Rattle.ring.specs.Element.{add, scale, full-turn, cosine, by-rule, basis-product, combine, mul}
 use Rattle.ring.proofs.Linear.{LinearMap, linear-combine, linear-combination, combine-cong, combine-nil, combine-swap}
 

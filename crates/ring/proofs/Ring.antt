@@ -7,8 +7,9 @@ use mathlib.Core.List.{List}
 use Prim.Native.Nat.{ℕ}
 use lib.Dec.{T}
 use lib.IntN.{ℤ, pos, negsuc, _*ℤ_, +ℤ-idl, zero-*ℤ, *ℤ-zero}
+use Rattle.integers.specs.Test.{every, eqList}
 use Rattle.integers.proofs.Integer.{*ℤ-pos1}
-use Rattle.integers.proofs.Tests.{every, every-at, eqList, eqList→≡}
+use Rattle.integers.proofs.Tests.{every-at, eqList→≡}
 use Rattle.ring.specs.Element.{add, scale, negate, only, number, cosine, basis-product, mul}
 use Rattle.ring.proofs.Linear.{linear-self, add-comm, add-assoc, add-scale, scale-one}
 use Rattle.ring.proofs.Product.{mul-left, mul-right}

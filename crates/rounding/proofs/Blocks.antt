@@ -9,30 +9,28 @@ use lib.Dec.{T, eqb, eqb→eq}
 use lib.IntN.{ℤ}
 use lib.ListN.{length}
 use mir.Facts.{and-yes}
-use borrow.Author.Tests.{le-ltb, ltb-false, eq-eqb}
-use Rattle.ring.specs.Element.{magnitudes}
-use Rattle.dct.specs.Limits.{places, components-size, magnitudes-limit}
+use borrow.Author.Tests.{eq-eqb}
+use Rattle.dct.specs.Limits.{places, components-size}
 use Rattle.answers.specs.Answer.{unless, lowest, accept, accepted}
 use Rattle.answers.proofs.Accepted.{unless-passes, lowest-passes, unless-accepted, lowest-accepted}
-use Rattle.elements.specs.Buffer.{element-at}
 use Rattle.transform.specs.Forward.{elements-of, forward-returned, forward-elements}
 use Rattle.transform.proofs.Range.{AllInRange}
-use Rattle.transform.proofs.Refusals.{accepted-means, accepted-leaves}
-use Rattle.transform.proofs.Meaning.{length-elements, magnitudes-of}
+use Rattle.accepted_sets.specs.Sets.{above-limit}
+use Rattle.accepted_sets.proofs.Limit.{none-above, passed}
+use Rattle.accepted_sets.proofs.BlockSets.{block-set, forward-set}
 use Rattle.rounding.specs.Preconditions.{Ready}
 use Rattle.rounding.specs.Rounding.{round-returned}
 use Rattle.rounding.specs.Tables.{width}
-use Rattle.rounding.proofs.Causes.{above-limit}
 
 pub accepts : {e : List ℤ} {b : ℕ} {c : List ℤ} → Ready e b c → round-returned e b c ≡ accept
 unfolding round-returned
 accepts {e} {b} {c} R =
     rw (
-      eq-eqb (length e) components-size (R .elements-length),
+      eq-eqb (length e) components-size (R .ready-set .size),
       eq-eqb (length c) places (R .coefficients-length),
       unless-passes (width b) 3 _ (R .ready-width),
     )
-    (lowest-passes places (above-limit e) 4 accept (λ p h. le-ltb magnitudes-limit (magnitudes (element-at e p)) (R .ready-limit p h)))
+    (lowest-passes places (above-limit e) 4 accept (none-above (R .ready-set)))
 
 -- and no other call is
 pub accepted-ready : (e : List ℤ) (b : ℕ) (c : List ℤ) → T (accepted (round-returned e b c)) → Ready e b c
@@ -43,20 +41,14 @@ accepted-ready e b c h =
     let (s, t) = and-yes (eqb (length e) components-size) (eqb (length c) places) both in
     let (w, last) = unless-accepted (width b) 2 (lowest places (above-limit e) 4 accept) rest in
     let (none, done) = lowest-accepted places (above-limit e) 3 accept last in
-    record {
-      elements-length = eqb→eq (length e) components-size s;
-      coefficients-length = eqb→eq (length c) places t;
-      ready-width = w;
-      ready-limit = λ p l. ltb-false magnitudes-limit _ (none p l);
-    }
+    record { ready-set = passed (eqb→eq (length e) components-size s) none; coefficients-length = eqb→eq (length c) places t; ready-width = w }
 
 -- blocks' sets
 
 pub block-accepted : (x : List ℤ) → AllInRange x → (b : ℕ) → T (width b) → (c : List ℤ) → length c ≡ places → round-returned (elements-of x) b c ≡ accept
-block-accepted x range b w c l =
-    accepts (record { elements-length = length-elements x; coefficients-length = l; ready-width = w; ready-limit = magnitudes-of x range })
+block-accepted x range b w c l = accepts (record { ready-set = block-set x range; coefficients-length = l; ready-width = w })
 
 -- what an accepted call of forward leaves
 pub set-accepted : (x e : List ℤ) → T (accepted (forward-returned x e)) → (b : ℕ) → T (width b) → (c : List ℤ) → length c ≡ places
     → round-returned (forward-elements x e) b c ≡ accept
-set-accepted x e h b w c l = rw (accepted-leaves x e h) (block-accepted x (accepted-means x e h .2) b w c l)
+set-accepted x e h b w c l = accepts (record { ready-set = forward-set x e h; coefficients-length = l; ready-width = w })

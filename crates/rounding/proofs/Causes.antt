@@ -4,37 +4,24 @@ use mathlib.Core.Path.{_≡_, refl, sym, _∙_}
 use mathlib.Core.Bool.{Bool, true, false, not}
 use mathlib.Core.List.{List}
 use Prim.Native.Nat.{ℕ, _≤_, _<_}
-use native.Mathlib.Nat.{lt-of-lt-of-le}
-use lib.Dec.{T, ltb, eqb}
+use lib.Dec.{T, eqb}
 use lib.IntN.{ℤ, pos}
 use lib.ListN.{length}
-use borrow.Author.Tests.{lt-ltb, le-ltb, ltb-false, eq-eqb, ne-eqb, not-true, not-false}
+use borrow.Author.Tests.{lt-ltb, le-ltb, eq-eqb, ne-eqb, not-true, not-false}
 use Rattle.integers.specs.Search.{first}
 use Rattle.integers.specs.Table.{table}
-use Rattle.integers.proofs.Search.{before-first}
 use Rattle.integers.proofs.Tables.{getD-table}
-use Rattle.ring.specs.Element.{magnitudes}
-use Rattle.dct.specs.Limits.{places, components-size, magnitudes-limit, distance-numerator}
+use Rattle.dct.specs.Limits.{places, components-size, distance-numerator}
 use Rattle.cuts.specs.Width.{coefficient}
 use Rattle.cuts.proofs.Error.{near}
 use Rattle.elements.specs.Buffer.{element-at}
 use Rattle.answers.specs.Answer.{Returned, lowest, accept, accepted}
+use Rattle.accepted_sets.specs.Sets.{above-limit}
+use Rattle.accepted_sets.proofs.Limit.{searched}
 use Rattle.rounding.specs.Preconditions.{Ready}
 use Rattle.rounding.specs.Rounding.{AllNear, round-returned, round-coefficients}
 use Rattle.rounding.specs.Tables.{width, numbers}
 use Rattle.rounding.proofs.Tables.{tables}
-
--- cause 4 at the element of number p
-abbrev pub above-limit : List ℤ → ℕ → Bool
-above-limit elements p = ltb magnitudes-limit (magnitudes (element-at elements p))
-
--- r is the sum that the code finds
-module _ (elements : List ℤ) (p : ℕ) {r : ℕ} (e : r ≡ magnitudes (element-at elements p)) where
-  pub above-yes : magnitudes-limit < r → above-limit elements p ≡ true
-  above-yes h = rw (← e) (lt-ltb magnitudes-limit r h)
-
-  pub above-no : r ≤ magnitudes-limit → above-limit elements p ≡ false
-  above-no h = rw (← e) (le-ltb magnitudes-limit r h)
 
 module _ (elements : List ℤ) (b : ℕ) (coefficients : List ℤ) where
   -- the 64 numbers of the formula
@@ -80,17 +67,12 @@ module _ (elements : List ℤ) (b : ℕ) (coefficients : List ℤ) where
       -- and no element is above the limit
       module _ (none : places ≤ p) where
         pub ready : Ready elements b coefficients
-        ready = record {
-          elements-length = l;
-          coefficients-length = k;
-          ready-width = rw (← e, not-false r t) tt;
-          ready-limit = λ i h. ltb-false magnitudes-limit _ (before-first places (above-limit elements) i (rw (← f) (lt-of-lt-of-le h none)));
-        }
+        ready = record { ready-set = searched l f none; coefficients-length = k; ready-width = rw (← e, not-false r t) tt }
 
         all-near : AllNear elements b formula
         all-near = record {
           near = λ i h. rw (getD-table places (λ p. coefficient b (numbers b) (element-at elements p)) (pos 0) i h)
-              (near b distance-numerator (numbers b) (element-at elements i) (tables b (ready .ready-width)) (ready .ready-limit i h));
+              (near b distance-numerator (numbers b) (element-at elements i) (tables b (ready .ready-width)) (ready .ready-set .in-limit i h));
         }
 
         answer : round-returned elements b coefficients ≡ accept

@@ -8,7 +8,8 @@ use native.Mathlib.Nat.{zero-lt-suc}
 use lib.Dec.{T, eqb, lit≤}
 use lib.IntN.{natAbs}
 use mir.Facts.{or-yes, eqb-yes}
-use Rattle.integers.proofs.Tests.{every, every-at}
+use Rattle.integers.specs.Test.{every}
+use Rattle.integers.proofs.Tests.{every-at}
 use Rattle.ring.specs.Element.{component}
 use Rattle.cuts.specs.Root.{root}
 use Rattle.cuts.specs.Width.{table-number, TableAt}

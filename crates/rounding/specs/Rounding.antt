@@ -2,16 +2,16 @@
 use mathlib.Core.Bool.{_&&_}
 use mathlib.Core.List.{List}
 use Prim.Native.Nat.{ℕ, _<_}
-use lib.Dec.{ltb, eqb}
+use lib.Dec.{eqb}
 use lib.IntN.{ℤ, pos}
 use lib.ListN.{length, getD}
 use Rattle.integers.specs.Table.{table}
-use Rattle.ring.specs.Element.{magnitudes}
-use Rattle.dct.specs.Limits.{places, components-size, magnitudes-limit, distance-numerator}
+use Rattle.dct.specs.Limits.{places, components-size, distance-numerator}
 use Rattle.cuts.specs.Value.{Near}
 use Rattle.cuts.specs.Width.{coefficient, distance}
 use Rattle.elements.specs.Buffer.{element-at}
 use Rattle.answers.specs.Answer.{Returned, unless, lowest, accept, written}
+use Rattle.accepted_sets.specs.Sets.{above-limit}
 use Rattle.rounding.specs.Tables.{width, numbers}
 
 -- causes 1, 3 and 4, in this order
@@ -19,7 +19,7 @@ unfoldable pub round-returned : List ℤ → ℕ → List ℤ → Returned
 round-returned elements b coefficients =
     unless (eqb (length elements) components-size && eqb (length coefficients) places) 1
     (unless (width b) 3
-    (lowest places (λ p. ltb magnitudes-limit (magnitudes (element-at elements p))) 4 accept))
+    (lowest places (above-limit elements) 4 accept))
 
 -- the coefficients after the call: "the coefficient at index 8u+v is made from the element at (u,v)"
 unfoldable pub round-coefficients : List ℤ → ℕ → List ℤ → List ℤ

@@ -4,33 +4,28 @@
 // element's value; a refused one leaves the buffer as it was, and names the first cause.
 //
 // 64 bits suffice: a table number is at most 2^(b+1) (`number-small`), so that N is at most 2^(b+1) times the sum of the element's
-// magnitudes. That sum is at most 2^18, and b at most 26: no sum or product here is above 2^46. In 32 bits the products would wrap at b = 20.
+// magnitudes. In an accepted set that sum is at most 2^18, and b is at most 26: no sum or product here is above 2^46. In 32 bits the
+// products would wrap at b = 20.
 ghost use mathlib.Core.Path.{_≡_};
 ghost use Prim.Native.Nat.{_^_, _<_};
-ghost use lib.Dec.{T, ltb};
+ghost use lib.Dec.{T};
 ghost use lib.IntN.{pos, _+ℤ_, _*ℤ_};
-ghost use lib.ListN.{length};
 ghost use mir.Syntax.{w64};
 ghost use mir.Val.{SFits};
-ghost use Rattle.integers.specs.Search.{first};
 ghost use Rattle.integers.specs.Table.{table};
-ghost use Rattle.ring.specs.Element as ring;
-ghost use Rattle.dct.specs.Limits.{places, components-size, magnitudes-limit};
+ghost use Rattle.dct.specs.Limits.{places};
 ghost use Rattle.cuts.specs.Width as cuts;
 ghost use Rattle.elements.specs.Buffer.{element-at};
 ghost use Rattle.answers.specs.Answer.{returned, accepted};
 ghost use Rattle.rounding.specs.Preconditions.{Allowed, Ready};
 ghost use Rattle.rounding.specs.Rounding.{AllNear, round-returned, round-coefficients};
 ghost use Rattle.rounding.specs.Tables as tables;
+use accepted_sets::first_above_limit;
 use answers::Answer;
 use elements::COMPONENTS;
 use elements::Element;
 use elements::PLACES;
 use elements::element_at;
-use integers::magnitude;
-
-// The largest sum of an element's magnitudes.
-const MAGNITUDES_LIMIT: u64 = 262144;
 
 // The table numbers m_1 to m_7 at each width.
 const NUMBERS_11: [i64; 7] = [4017, 3784, 3406, 2896, 2276, 1567, 799];
@@ -72,20 +67,6 @@ fn is_width(b: u32) -> bool
         return true;
     }
     b == 26
-}
-
-// The sum of the magnitudes of an element's components.
-fn magnitudes(u: Element) -> u64
-    ensures { λ r. ⌜ r ≡ ring.magnitudes (u .components) ⌝ }
-{
-    let a = u.components;
-    let mut s: u64 = 0;
-    let mut k = 0;
-    while k < 8 {
-        s += magnitude(a[k]);
-        k += 1;
-    }
-    s
 }
 
 // 2^b
@@ -132,23 +113,7 @@ fn coefficient(u: Element, b: u32, numbers: [i64; 7]) -> i32
     y as i32
 }
 
-// The number of the first element whose magnitudes sum above the limit, or 64 where there is none.
-fn first_above_limit(elements: &[i32]) -> usize
-    requires { ⌜ length (now elements) ≡ components-size ⌝ }
-    ensures { λ r. ⌜ r ≡ first places (λ p. ltb magnitudes-limit (ring.magnitudes (element-at (now (elements .entry)) p))) ⌝ }
-{
-    let mut p = 0;
-    while p < PLACES {
-        let sum = magnitudes(element_at(elements, p));
-        if MAGNITUDES_LIMIT < sum {
-            return p;
-        }
-        p += 1;
-    }
-    p
-}
-
-// Every coefficient, of elements that are all within the limit.
+// Every coefficient of an accepted set.
 fn fill(elements: &[i32], b: u32, coefficients: &mut [i32])
     requires { ⌜ Ready (now elements) b (now coefficients) ⌝ }
     ensures { λ r. ⌜ now (coefficients .exit) ≡ table places (λ p. cuts.coefficient b (tables.numbers b) (element-at (now (elements .entry)) p)) ⌝ }

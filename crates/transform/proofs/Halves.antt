@@ -18,7 +18,7 @@ use Rattle.dct.proofs.Halves.{even-step, odd-step}
 use Rattle.elements.specs.declared.Element.{Element}
 use Rattle.elements.specs.Bound.{Within, bits}
 use Rattle.elements.specs.Buffer.{Row, entry}
-use Rattle.elements.proofs.Bounds.{within-le, within-times}
+use Rattle.elements.proofs.Bounds.{within-le, within-cosine}
 use Rattle.elements.proofs.Componentwise.{within-add, within-subtract}
 use Rattle.transform.specs.Step.{Room}
 
@@ -31,28 +31,23 @@ room-add n p q = within-le (one-bit n) (within-add p q)
 pub room-subtract : (n : ℕ) {a b : List ℤ} → Within (bits n) a → Within (bits n) b → Within (bits (suc n)) (subtract a b)
 room-subtract n p q = within-le (one-bit n) (within-subtract p q)
 
-pub room-times : (n k : ℕ) → k < 8 → {a : List ℤ} → Eight a → Within (bits n) a → Within (bits (suc n)) (mul (cosine (pos k)) a)
-room-times n k h e p = within-le (one-bit n) (within-times k h e p)
+pub room-times : (n k : ℕ) {a : List ℤ} → Eight a → Within (bits n) a → Within (bits (suc n)) (mul (cosine (pos k)) a)
+room-times n k e p = within-le (one-bit n) (within-cosine (pos k) e p)
 
 -- fewer bits than there is room for
 pub wide : (n : ℕ) {a : List ℤ} → Within (bits n) a → Within (bits (suc n)) a
 wide n p = within-le (omega (arith, one-bit n)) p
 
 -- c_j × a ± c_k × b, for elements a and b of a row
-module _ {d : List Element} (room : Room 4 28 d) (i j n k : ℕ) (t : T (ltb i 4 && (ltb j 8 && (ltb n 4 && ltb k 8)))) where
-  product : (i j : ℕ) → i < 4 → j < 8 → Within (bits 29) (mul (cosine (pos j)) (entry d i))
-  product i j h l = room-times 28 j l (record { eight = room .eights i h }) (room .within i h)
+module _ {d : List Element} (room : Room 4 28 d) (i j n k : ℕ) (t : T (ltb i 4 && ltb n 4)) where
+  product : (i j : ℕ) → i < 4 → Within (bits 29) (mul (cosine (pos j)) (entry d i))
+  product i j h = room-times 28 j (record { eight = room .eights i h }) (room .within i h)
 
   first : Within (bits 29) (mul (cosine (pos j)) (entry d i))
-  first =
-      let (p, q) = and-yes (ltb i 4) (ltb j 8 && (ltb n 4 && ltb k 8)) t in
-      product i j (ltb→lt i 4 p) (ltb→lt j 8 (and-yes (ltb j 8) (ltb n 4 && ltb k 8) q .0))
+  first = product i j (ltb→lt i 4 (and-yes (ltb i 4) (ltb n 4) t .0))
 
   second : Within (bits 29) (mul (cosine (pos k)) (entry d n))
-  second =
-      let (p, q) = and-yes (ltb i 4) (ltb j 8 && (ltb n 4 && ltb k 8)) t in
-      let (u, v) = and-yes (ltb n 4) (ltb k 8) (and-yes (ltb j 8) (ltb n 4 && ltb k 8) q .1) in
-      product n k (ltb→lt n 4 u) (ltb→lt k 8 v)
+  second = product n k (ltb→lt n 4 (and-yes (ltb i 4) (ltb n 4) t .1))
 
   pub room-sum : Within (bits 30) (add (mul (cosine (pos j)) (entry d i)) (mul (cosine (pos k)) (entry d n)))
   room-sum = room-add 29 first second

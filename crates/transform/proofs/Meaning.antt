@@ -38,7 +38,7 @@ place x p k h l =
     getD-table components-size (λ i. component (element 2 (sample x) (i / 8)) (i % 8)) (pos 0) (8 * p + k) (omega arith) ∙ rw (q, r)
 
 -- "The exact element at (u,v) ... is the sum over all i, j of x(i,j) × t(u,i) × t(v,j). It starts at index 8·(8u+v), component 0 first"
-component-of : (x : List ℤ) (u v k : ℕ) → u < 8 → v < 8 → k < 8
+pub component-of : (x : List ℤ) (u v k : ℕ) → u < 8 → v < 8 → k < 8
     → getD (elements-of x) (8 * (8 * u + v) + k) (pos 0) ≡ component (double-sum (λ i j. sample x (8 * i + j)) u v) k
 component-of x u v k h l m = place x (8 * u + v) k (omega arith) m ∙ ap (λ a. component a k) (element-double-sum (sample x) u v h l)
 

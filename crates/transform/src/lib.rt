@@ -39,7 +39,7 @@ const LOWEST_SAMPLE: i32 = -2048;
 const HIGHEST_SAMPLE: i32 = 2047;
 
 // c_j × a + c_k × b
-fn sum_of_products(a: Element, j: usize, b: Element, k: usize) -> Element
+pub fn sum_of_products(a: Element, j: usize, b: Element, k: usize) -> Element
     requires { ⌜ Within (bits 29) (a .components) ⌝ }
     requires { ⌜ Within (bits 29) (b .components) ⌝ }
     requires { ⌜ j < 8 ⌝ }
@@ -50,7 +50,7 @@ fn sum_of_products(a: Element, j: usize, b: Element, k: usize) -> Element
 }
 
 // c_j × a - c_k × b
-fn difference_of_products(a: Element, j: usize, b: Element, k: usize) -> Element
+pub fn difference_of_products(a: Element, j: usize, b: Element, k: usize) -> Element
     requires { ⌜ Within (bits 29) (a .components) ⌝ }
     requires { ⌜ Within (bits 29) (b .components) ⌝ }
     requires { ⌜ j < 8 ⌝ }
@@ -81,7 +81,7 @@ fn even(s: [Element; 4]) -> [Element; 4]
 }
 
 // The frequencies 1, 3, 5 and 7, from its four differences.
-fn odd(d: [Element; 4]) -> [Element; 4]
+pub fn odd(d: [Element; 4]) -> [Element; 4]
     requires { ⌜ Room 4 28 d ⌝ }
     ensures { λ r. ⌜ Row 4 (λ i. dct.half-step (entry d) (2 * i + 1)) r ⌝ }
 {
@@ -173,7 +173,7 @@ fn steps(x: [[Element; 8]; 8]) -> [[Element; 8]; 8]
 }
 
 // Rows and columns change places.
-fn transposed(x: [[Element; 8]; 8]) -> [[Element; 8]; 8]
+pub fn transposed(x: [[Element; 8]; 8]) -> [[Element; 8]; 8]
     ensures { λ r. ⌜ Rows (λ i j. entry (row x j) i) r ⌝ }
 {
     let zero = only(0, 0);

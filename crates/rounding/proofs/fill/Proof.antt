@@ -41,7 +41,7 @@ coefficient-requires : tie.Need-coefficient-requires Inv-loop μ-loop
 coefficient-requires c κs =
     let start = c .before .before .before .before in
     let table = c .before .before .before .numbers-at .ensures in
-    allowed (start .pre .ready-width) table (c .element-at .ensures) (start .pre .ready-limit _ (omega arith))
+    allowed (start .pre .ready-width) table (c .element-at .ensures) (start .pre .ready-set .in-limit _ (omega arith))
 
 mul-y : tie.Need-mul-y Inv-loop μ-loop
 mul-y c = omega arith
@@ -60,7 +60,7 @@ loop-again c =
     let start = c .before .before .before .before .before in
     let table = c .before .before .before .before .numbers-at .ensures in
     let element = c .before .element-at .ensures in
-    let bounds = sized (allowed (start .pre .ready-width) table element (start .pre .ready-limit _ (omega arith))) in
+    let bounds = sized (allowed (start .pre .ready-width) table element (start .pre .ready-set .in-limit _ (omega arith))) in
     filled-more (omega arith) (c .before .before .before .loop .inv)
     (coefficient-kept bounds (c .coefficient .ensures) ∙ ap₂ (coefficient (start .args .b)) table element)
 

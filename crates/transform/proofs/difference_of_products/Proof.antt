@@ -2,10 +2,11 @@
 -- Assumes nothing.
 use mathlib.Core.Path.{ap₂, _∙_}
 use native.Mathlib.Omega.{arith}
+use lib.IntN.{pos}
 use borrow.Author.Needs.{needs}
 use Rattle.ring.specs.Element.{subtract}
 use Rattle.ring.proofs.Components.{Eight}
-use Rattle.elements.proofs.Bounds.{within-le, within-times}
+use Rattle.elements.proofs.Bounds.{within-le, within-cosine}
 use Rattle.transform.proofs.difference_of_products.Statement.{statement}
 use Rattle.transform.proofs.difference_of_products.Tie as tie
 
@@ -20,8 +21,8 @@ subtract-requires c κs =
     let start = c .before .before in
     let p : Eight (start .args .a .components) = record { eight = search needs } in
     let q : Eight (start .args .b .components) = record { eight = search needs } in (
-      rw (c .before .times .ensures) (within-le (omega arith) (within-times (start .args .j) (start .pre .1 .1 .0) p (start .pre .0))),
-      rw (c .times2 .ensures) (within-le (omega arith) (within-times (start .args .k) (start .pre .1 .1 .1) q (start .pre .1 .0))),
+      rw (c .before .times .ensures) (within-le (omega arith) (within-cosine (pos (start .args .j)) p (start .pre .0))),
+      rw (c .times2 .ensures) (within-le (omega arith) (within-cosine (pos (start .args .k)) q (start .pre .1 .0))),
     )
 
 returns : tie.Need-returns

@@ -6,9 +6,10 @@ use native.Mathlib.Omega.{arith}
 use Rattle.integers.proofs.Search.{Passed, passed-none, passed-more, first-at, first-none}
 use Rattle.ring.specs.Element.{magnitudes}
 use Rattle.dct.specs.Limits.{places}
-use Rattle.rounding.proofs.Causes.{above-limit, above-yes, above-no}
-use Rattle.rounding.proofs.first_above_limit.Statement.{statement}
-use Rattle.rounding.proofs.first_above_limit.Tie as tie
+use Rattle.accepted_sets.specs.Sets.{above-limit}
+use Rattle.accepted_sets.proofs.Limit.{above-yes, above-no}
+use Rattle.accepted_sets.proofs.first_above_limit.Statement.{statement}
+use Rattle.accepted_sets.proofs.first_above_limit.Tie as tie
 
 abbrev Inv-loop : tie.InvT-loop
 Inv-loop elements p₀ p = Passed places (above-limit elements) p

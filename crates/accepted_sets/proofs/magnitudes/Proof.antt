@@ -14,8 +14,8 @@ use borrow.Author.Needs.{needs}
 use Rattle.integers.specs.Sum.{sum}
 use Rattle.ring.specs.Element.{component}
 use Rattle.ring.proofs.Magnitude.{sizes, sizes-all}
-use Rattle.rounding.proofs.magnitudes.Statement.{statement}
-use Rattle.rounding.proofs.magnitudes.Tie as tie
+use Rattle.accepted_sets.proofs.magnitudes.Statement.{statement}
+use Rattle.accepted_sets.proofs.magnitudes.Tie as tie
 
 -- the magnitude r that the call gives of a component x
 read : (x : ℤ) → mag x < 2 ^ 31 → {r : ℕ} → r ≡ natAbs (toZ w32 (ofZ w32 x)) → (r ≡ natAbs x) × (r ≤ 2 ^ 31)

@@ -1,0 +1,68 @@
+-- The comparison that decides whether a block has the elements: forward's, and then number by number.
+-- Assumes nothing.
+use mathlib.Core.Path.{_≡_, sym, ap, _∙_}
+use mathlib.Core.Bool.{true, false, _&&_}
+use mathlib.Core.List.{List}
+use Prim.Native.Nat.{ℕ, _+_, _≤_, _<_}
+use native.Mathlib.Nat.{not-suc-le-zero}
+use native.Mathlib.Decide.{ℕ-discrete}
+use native.Mathlib.Omega.{arith}
+use lib.Dec.{T}
+use lib.IntN.{ℤ, pos}
+use lib.ListN.{length, getD}
+use lib.Seq.{ext-getD}
+use mir.Facts.{and-yes}
+use borrow.Author.Tests.{eq-eqb}
+use Rattle.integers.specs.Test.{every, eqList}
+use Rattle.integers.proofs.Tests.{holds, fails, every-at, every-passes, eqList→≡, eqList-refl}
+use Rattle.dct.specs.Limits.{places, components-size, in-range}
+use Rattle.answers.specs.Answer.{accepted}
+use Rattle.transform.specs.Forward.{sample, elements-of, forward-returned, forward-elements}
+use Rattle.transform.proofs.Range.{AllInRange}
+use Rattle.transform.proofs.Refusals.{accepts, accepted-means, accepted-leaves}
+use Rattle.inverse.specs.Back.{is-block-of}
+
+-- two buffers, number by number
+
+-- the first i numbers of a and b are the same
+pub record Agree (a b : List ℤ) (i : ℕ) : Type 0 where
+  pub agree : (k : ℕ) → k < i → getD a k (pos 0) ≡ getD b k (pos 0)
+
+pub agree-none : {a b : List ℤ} → Agree a b 0
+agree-none = record { agree = λ k h. absurd (not-suc-le-zero h) }
+
+pub agree-more : {a b : List ℤ} {i : ℕ} → Agree a b i → getD a i (pos 0) ≡ getD b i (pos 0) → Agree a b (i + 1)
+agree-more {a} {b} {i} A e = record { agree = λ k h. go k h (ℕ-discrete k i) }
+  where
+    go : (k : ℕ) → k < i + 1 → Dec (k ≡ i) → getD a k (pos 0) ≡ getD b k (pos 0)
+    go k h (yes p) = rw p e
+    go k h (no q) = A .agree k (omega arith)
+
+pub agree-all : (a b : List ℤ) {n i : ℕ} → length a ≡ n → length b ≡ n → n ≤ i → Agree a b i → true ≡ eqList a b
+agree-all a b {n} {i} p q l A = go (ext-getD (pos 0) a b (p ∙ sym q) (λ k h. let h′ : k < n = rw p at h in A .agree k (omega arith)))
+  where
+    go : a ≡ b → true ≡ eqList a b
+    go e = rw e (sym (holds (eqList b b) (eqList-refl b)))
+
+pub differ : (a b : List ℤ) (i : ℕ) → (getD a i (pos 0) ≡ getD b i (pos 0) → ⊥) → false ≡ eqList a b
+differ a b i n = sym (fails (eqList a b) (λ t. n (ap (λ l. getD l i (pos 0)) (eqList→≡ a b t))))
+
+-- the range, as a test and as a fact
+
+pub range-at : (x : List ℤ) → T (every places (λ i. in-range (sample x i))) → AllInRange x
+range-at x t = record { at = λ i h. holds _ (every-at places (λ i. in-range (sample x i)) t i h) }
+
+pub range-test : (x : List ℤ) → AllInRange x → T (every places (λ i. in-range (sample x i)))
+range-test x range = every-passes places (λ i. in-range (sample x i)) (λ i h. rw (range .at i h) tt)
+
+-- forward of the block x, into a buffer that holds `made`
+module _ (e x made : List ℤ) where
+  pub forward-refuses : length x ≡ places → length made ≡ components-size → (forward-returned x made .number ≡ 0 → ⊥) → false ≡ is-block-of e x
+  forward-refuses s l n =
+      sym (fails (is-block-of e x)
+      (λ t. n (ap (λ r. r .number) (accepts x made s l (range-at x (and-yes (every places (λ i. in-range (sample x i))) (eqList (elements-of x) e) t .0))))))
+
+  pub forward-accepts : forward-returned x made .number ≡ 0 → eqList (forward-elements x made) e ≡ is-block-of e x
+  forward-accepts h =
+      let t : T (accepted (forward-returned x made)) = rw (eq-eqb (forward-returned x made .number) 0 h) tt in
+      rw (accepted-leaves x made t, holds (every places (λ i. in-range (sample x i))) (range-test x (accepted-means x made t .2)))

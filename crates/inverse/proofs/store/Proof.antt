@@ -1,0 +1,59 @@
+-- `store` meets its contract: the loop copies from the front.
+-- Assumes nothing.
+use mathlib.Core.Path.{_≡_, refl, sym, _∙_}
+use Prim.Native.Nat.{_-_}
+use native.Mathlib.Omega.{arith}
+use lib.IntN.{pos}
+use lib.ListN.{getD}
+use mir.Syntax.{w32}
+use mir.Val.{ofZ, toZ}
+use mir.Facts.{toZ-ofZ}
+use borrow.Author.Needs.{needs}
+use Rattle.integers.proofs.Tables.{Filled, filled-none, filled-more, filled-all, is-table}
+use Rattle.inverse.proofs.store.Statement.{statement}
+use Rattle.inverse.proofs.store.Tie as tie
+
+abbrev Inv-loop : tie.InvT-loop
+Inv-loop samples₀ block i₀ samples i = Filled (pos 0) 64 (λ i. getD block i (pos 0)) i samples
+
+abbrev μ-loop : tie.MeasureT-loop
+μ-loop samples₀ block i₀ samples i = 64 - i
+
+loop-holds : tie.Need-loop-holds Inv-loop μ-loop
+loop-holds c = filled-none (c .pre)
+
+mul-samples : tie.Need-mul-samples Inv-loop μ-loop
+mul-samples c = omega arith
+
+array-copy-out-samples : tie.Need-array-copy-out-samples Inv-loop μ-loop
+array-copy-out-samples c = omega arith
+
+mul-t10 : tie.Need-mul-t10 Inv-loop μ-loop
+mul-t10 c = omega arith
+
+slice-set-from-samples : tie.Need-slice-set-from-samples Inv-loop μ-loop
+slice-set-from-samples c = omega (arith, c .before .before .loop .inv .each .size)
+
+add-i : tie.Need-add-i Inv-loop μ-loop
+add-i c = omega arith
+
+loop-less : tie.Need-loop-less Inv-loop μ-loop
+loop-less c = omega arith
+
+loop-again : tie.Need-loop-again Inv-loop μ-loop
+loop-again c =
+    let x = getD (c .before .before .before .args .t1) (c .before .before .loop .i) (pos 0) in
+    let read : toZ w32 (ofZ w32 x) ≡ x = toZ-ofZ (search needs) in
+    filled-more (omega arith) (c .before .before .loop .inv) read
+
+same-length : tie.Need-same-length Inv-loop μ-loop
+same-length c = c .before .loop .inv .each .size ∙ sym (c .before .before .pre)
+
+returns : tie.Need-returns Inv-loop μ-loop
+returns c = filled-all (omega arith) (c .before .loop .inv) ∙ sym (is-table (pos 0) (c .before .before .args .t1) 64 _ (search needs) (λ k h. refl))
+
+pub store-spec : {M : Type 1} → statement M
+store-spec =
+    tie.close
+    (tie.spec Inv-loop μ-loop loop-holds mul-samples array-copy-out-samples mul-t10 slice-set-from-samples add-i loop-less loop-again same-length
+    returns)
