@@ -6,7 +6,7 @@ ghost use lib.ListN.{length};
 ghost use Rattle.integers.specs.Table.{table};
 ghost use Rattle.integers.specs.Test.{eqList};
 ghost use Rattle.ring.specs.Element as ring;
-ghost use Rattle.dct.specs.Inverse.{even-back};
+ghost use Rattle.dct.specs.Inverse.{even-back, step-back};
 ghost use Rattle.dct.specs.Limits.{components-size, places};
 ghost use Rattle.elements.specs.Buffer.{Row, element-at, entry};
 ghost use Rattle.answers.specs.Answer.{returned};
@@ -64,30 +64,43 @@ fn sixteenth(a: Element) -> Element
     Element { components: r }
 }
 
-// The element at place n of a row, from what its even and its odd frequencies give.
-fn butterfly(e: [Element; 4], o: [Element; 4], n: usize) -> Element
+// The eight places of a row, from what its even and its odd frequencies give at the places 0 to 3.
+fn butterflies(e: [Element; 4], o: [Element; 4]) -> [Element; 8]
     requires { ⌜ Room 4 30 e ⌝ }
     requires { ⌜ Room 4 30 o ⌝ }
-    requires { ⌜ n < 8 ⌝ }
-    ensures { λ r. ⌜ r .components ≡ passes.butterfly (entry e) (entry o) n ⌝ }
+    ensures { λ r. ⌜ Row 8 (passes.butterfly (entry e) (entry o)) r ⌝ }
 {
-    if n < 4 {
-        return add(e[n], o[n]);
-    }
-    subtract(e[7 - n], o[7 - n])
+    let x0 = add(e[0], o[0]);
+    let x1 = add(e[1], o[1]);
+    let x2 = add(e[2], o[2]);
+    let x3 = add(e[3], o[3]);
+    let x4 = subtract(e[3], o[3]);
+    let x5 = subtract(e[2], o[2]);
+    let x6 = subtract(e[1], o[1]);
+    let x7 = subtract(e[0], o[0]);
+    [x0, x1, x2, x3, x4, x5, x6, x7]
 }
 
-// The row whose step is x, if there is one: the step's transpose, divided by 16.
+// The transpose of the 8-point step over one row.
+fn step_back(x: [Element; 8]) -> [Element; 8]
+    requires { ⌜ Room 8 27 x ⌝ }
+    ensures { λ r. ⌜ Row 8 (step-back (entry x)) r ⌝ }
+{
+    let e = even_back([x[0], x[2], x[4], x[6]]);
+    let o = odd([x[1], x[3], x[5], x[7]]);
+    butterflies(e, o)
+}
+
+// The row whose step is x, if there is one.
 fn row_back(x: [Element; 8]) -> [Element; 8]
     requires { ⌜ Room 8 27 x ⌝ }
     ensures { λ r. ⌜ Row 8 (passes.row-back (entry x)) r ⌝ }
 {
-    let e = even_back([x[0], x[2], x[4], x[6]]);
-    let o = odd([x[1], x[3], x[5], x[7]]);
-    let mut r = x;
+    let y = step_back(x);
+    let mut r = y;
     let mut n = 0;
     while n < 8 {
-        r[n] = sixteenth(butterfly(e, o, n));
+        r[n] = sixteenth(y[n]);
         n += 1;
     }
     r
