@@ -15,10 +15,10 @@ use Rattle.ring.proofs.Linear.{elements, linear-sum}
 use Rattle.ring.proofs.Product.{mul-left, mul-right, mul-comm, mul-assoc}
 use Rattle.ring.proofs.Components.{Eight, eight-only, eight-scale, eight-sum, component-add, component-scale, same-components}
 use Rattle.ring.proofs.Ring.{mul-number, scale-number}
-use Rattle.dct.specs.Inverse.{summed-back, gram, delta, step-back}
+use Rattle.dct.specs.Inverse.{summed-back, step-back}
 use Rattle.dct.specs.Transform.{factor, factors, element, step}
 use Rattle.dct.proofs.Factors.{eight-factors}
-use Rattle.dct.proofs.Orthogonal.{delta-same, delta-other, row-gram, row-gram-is, orthogonal}
+use Rattle.dct.proofs.Orthogonal.{gram, delta, delta-same, delta-other, row-gram, row-gram-is, orthogonal}
 
 -- a matrix t that is orthogonal as the factors are: it takes elements x to others, and its transpose takes these to 16^d × x
 module _ (d n : ℕ) (t : ℕ → ℕ → List ℤ) (gram-is : (q r : ℕ) → q < n → r < n → sum [] add n (λ p. mul (t p q) (t p r)) ≡ number (delta d q r))

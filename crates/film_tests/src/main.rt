@@ -1,8 +1,9 @@
-// Runs 01's films of blocks and of elements through forward and rounding, and some more calls of their kind, and prints what each returns
+// Runs 01's films of blocks and of elements through forward, back and rounding, and some more calls of their kind, and prints what each returns
 // and leaves; the file stdout has what 01 says, or what follows from its rules. A line has the number and the place that the call returns,
 // and then some numbers of its buffer, which held 7 before.
 ghost use Prim.Native.Nat.{_<_};
 use answers::Answer;
+use inverse::back;
 use rounding::round;
 use transform::forward;
 
@@ -61,6 +62,30 @@ fn short_forward() {
     print(short[0], b'\n');
 }
 
+// Back of elements that are all 0, but for x at component k of the set: the first sample, and the last.
+fn try_back(x: i32, k: usize)
+    requires { ⌜ k < 512 ⌝ }
+{
+    let mut elements = [0i32; 512];
+    elements[k] = x;
+    let mut samples = [7i32; 64];
+    print_answer(back(&elements, &mut samples));
+    print(samples[0], b' ');
+    print(samples[63], b'\n');
+}
+
+// 511 numbers, all too large: cause 1 comes before 4. Then a buffer of 63 samples, and numbers all too large: cause 4 comes before 5.
+fn short_back() {
+    let mut samples = [7i32; 64];
+    print_answer(back(&[262145i32; 511], &mut samples));
+    print(samples[0], b'\n');
+    let mut short = [7i32; 63];
+    print_answer(back(&[0i32; 512], &mut short));
+    print(short[0], b'\n');
+    print_answer(back(&[262145i32; 512], &mut samples));
+    print(samples[0], b'\n');
+}
+
 // Rounding at b of elements that are all 0, but for x at component k of the set: the first coefficient, that at (1,1), and the last.
 fn try_round(x: i32, k: usize, b: u32)
     requires { ⌜ k < 512 ⌝ }
@@ -98,6 +123,22 @@ fn try_both(other: i32, x: i32, b: u32) {
     print(coefficients[63], b'\n');
 }
 
+// Forward of samples that are all `other`, but for x at (7,7), then x2 in place of component k of the set, and then back: the first sample and the
+// last.
+fn try_return(other: i32, x: i32, k: usize, x2: i32)
+    requires { ⌜ k < 512 ⌝ }
+{
+    let mut block = [other; 64];
+    block[63] = x;
+    let mut elements = [7i32; 512];
+    print_answer(forward(&block, &mut elements));
+    elements[k] = x2;
+    let mut samples = [7i32; 64];
+    print_answer(back(&elements, &mut samples));
+    print(samples[0], b' ');
+    print(samples[63], b'\n');
+}
+
 fn forward_films() {
     io::write_all(1, b"forward\n");
     try_forward(1, 1, 0);
@@ -108,6 +149,31 @@ fn forward_films() {
     try_forward(0, -2049, 63);
     try_forward(2048, 0, 0);
     short_forward();
+}
+
+fn back_films() {
+    io::write_all(1, b"back\n");
+    try_back(262144, 0);
+    try_back(262145, 0);
+    try_back(1, 0);
+    try_back(128, 0);
+    try_back(-262144, 0);
+    try_back(262016, 0);
+    try_back(-2147483648, 511);
+    try_back(2147483647, 79);
+    try_back(0, 0);
+    short_back();
+}
+
+// The set's last number is 0 by the class of (7,7), so that 0 there leaves a block's set as it is.
+fn return_films() {
+    io::write_all(1, b"forward, then back\n");
+    try_return(-2048, 2047, 511, 0);
+    try_return(2047, -2048, 511, 0);
+    try_return(1, 1, 0, 128);
+    try_return(1, 1, 0, 129);
+    try_return(1, 1, 511, 1);
+    try_return(1, 1, 0, 262144);
 }
 
 fn round_films() {
@@ -134,6 +200,8 @@ fn both_films() {
 
 fn main() {
     forward_films();
+    back_films();
+    return_films();
     round_films();
     both_films();
 }

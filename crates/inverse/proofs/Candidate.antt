@@ -1,7 +1,6 @@
 -- The candidate: where a block has the elements, it is that block. So the call is accepted exactly when there is one.
 -- Assumes nothing.
-use mathlib.Core.Path.{_≡_, sym, ap, _∙_, subst}
-use mathlib.Core.Bool.{true, false, _&&_}
+use mathlib.Core.Path.{_≡_, sym, ap, _∙_}
 use mathlib.Core.List.{List, []}
 use Prim.Native.Nat.{ℕ, _^_, _<_}
 use lib.Dec.{T, lit<}
@@ -17,7 +16,7 @@ use Rattle.integers.proofs.Tests.{eqList→≡, eqList-refl}
 use Rattle.ring.specs.Element.{component, add, mul}
 use Rattle.dct.specs.Inverse.{summed-back}
 use Rattle.dct.specs.Limits.{dimensions, places, in-range}
-use Rattle.dct.specs.Transform.{factors, element}
+use Rattle.dct.specs.Transform.{factors}
 use Rattle.dct.proofs.Inverse.{inverse}
 use Rattle.elements.specs.Buffer.{element-at}
 use Rattle.transform.specs.Forward.{sample, elements-of}

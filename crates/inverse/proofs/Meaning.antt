@@ -1,11 +1,13 @@
--- What the way back does, in 01's words: with buffers of full length and magnitudes within the limit, the call is accepted exactly when there is
--- a block in range that has these elements; then the buffer holds that block, which is the only one. And what forward and back do after one
--- another.
+-- What the way back does, in 01's words: a call with 64 samples is accepted exactly when there is a block in range that has these elements; then
+-- the buffer holds that block, which is the only one. An accepted set that no block has is refused by cause 5. And what forward and back do
+-- after one another.
 -- Assumes nothing.
-use mathlib.Core.Path.{_≡_, refl, sym, ap, subst, _∙_}
+use mathlib.Core.Path.{_≡_, sym, ap, _∙_}
+use mathlib.Core.Logic.{_↔_}
 use mathlib.Core.Bool.{_&&_}
 use mathlib.Core.List.{List}
 use Prim.Native.Nat.{ℕ, _+_, _*_, _/_, _%_, _<_}
+use native.Mathlib.Decide.{ℕ-discrete}
 use native.Mathlib.Omega.{arith}
 use lib.Dec.{T, eqb, eqb→eq}
 use lib.IntN.{ℤ, pos}
@@ -23,30 +25,36 @@ use Rattle.answers.proofs.Accepted.{unless-passes, lowest-passes, unless-accept
 use Rattle.transform.specs.Forward.{sample, elements-of, forward-returned, forward-elements}
 use Rattle.transform.proofs.Range.{AllInRange}
 use Rattle.transform.proofs.Refusals as forward
-use Rattle.transform.proofs.Meaning.{component-of}
+use Rattle.transform.proofs.Meaning.{length-elements, component-of}
 use Rattle.accepted_sets.specs.Sets.{above-limit, AcceptedSet}
-use Rattle.accepted_sets.proofs.BlockSets.{forward-set}
+use Rattle.accepted_sets.proofs.BlockSets.{block-set}
 use Rattle.accepted_sets.proofs.Limit.{none-above, passed}
 use Rattle.inverse.specs.Back.{candidate, is-block-of, back-returned, back-samples}
 use Rattle.inverse.proofs.Candidate.{length-candidate, test-block, block-facts, only-candidate}
+use Rattle.inverse.proofs.Causes.{wrong-samples}
 
--- x is a block in range, and the numbers e are its elements: "The exact element at (u,v) ... is the sum over all i, j of x(i,j) × t(u,i) × t(v,j).
+-- x is a block in range, and the 512 numbers e are its elements: "The exact element at (u,v) ... is the sum over all i, j of x(i,j) × t(u,i) × t(v,j).
 -- ... It starts at index 8·(8u+v), component 0 first"
 pub record HasElements (x e : List ℤ) : Type 0 where
   pub size : length x ≡ places
   pub range : AllInRange x
+  pub whole : length e ≡ components-size
   pub components : (u v k : ℕ) → u < 8 → v < 8 → k < 8
       → getD e (8 * (8 * u + v) + k) (pos 0) ≡ component (double-sum (λ i j. sample x (8 * i + j)) u v) k
 
 -- the same in the words of forward's definition
 
 has-elements : (x e : List ℤ) → length x ≡ places → AllInRange x → elements-of x ≡ e → HasElements x e
-has-elements x e size range has =
-    record { size = size; range = range; components = λ u v k h l m. rw (← has) (component-of x u v k h l m) }
+has-elements x e size range has = record {
+  size = size;
+  range = range;
+  whole = rw (← has) (length-elements x);
+  components = λ u v k h l m. rw (← has) (component-of x u v k h l m);
+}
 
-elements-are : (x e : List ℤ) → length e ≡ components-size → HasElements x e → elements-of x ≡ e
+elements-are : {x e : List ℤ} → HasElements x e → elements-of x ≡ e
 unfolding elements-of
-elements-are x e size H = sym (is-table (pos 0) e components-size (λ i. component (element 2 (sample x) (i / 8)) (i % 8)) size at)
+elements-are {x} {e} H = sym (is-table (pos 0) e components-size (λ i. component (element 2 (sample x) (i / 8)) (i % 8)) (H .whole) at)
   where
     at : (i : ℕ) → i < components-size → getD e i (pos 0) ≡ component (element 2 (sample x) (i / 8)) (i % 8)
     at i h =
@@ -57,6 +65,9 @@ elements-are x e size H = sym (is-table (pos 0) e components-size (λ i. compone
         let there = rw (number, index) at (H .components u v (i % 8) (omega arith) (omega arith) (omega arith)) in
         there ∙ ap (λ a. component a (i % 8)) (sym (rw number at (element-double-sum (sample x) u v (omega arith) (omega arith))))
 
+is-candidate : {x e : List ℤ} → HasElements x e → candidate e ≡ x
+is-candidate {x} {e} H = only-candidate e x (H .size) (elements-are H)
+
 -- which calls are accepted
 
 -- past causes 1 and 4, the candidate decides
@@ -66,9 +77,9 @@ decided e s set room =
     rw (eq-eqb (length e) components-size (set .size), eq-eqb (length s) places room)
     (lowest-passes places (above-limit e) 4 (unless (is-block-of e (candidate e)) 5 accept) (none-above set))
 
-pub accepted-means : (e s : List ℤ) → T (accepted (back-returned e s)) → AcceptedSet e × (length s ≡ places) × T (is-block-of e (candidate e))
+no-cause : (e s : List ℤ) → T (accepted (back-returned e s)) → AcceptedSet e × (length s ≡ places) × T (is-block-of e (candidate e))
 unfolding back-returned
-accepted-means e s h =
+no-cause e s h =
     let lengths = eqb (length e) components-size && eqb (length s) places in
     let last = unless (is-block-of e (candidate e)) 5 accept in
     let (both, rest) = unless-accepted lengths 0 (lowest places (above-limit e) 4 last) h in
@@ -80,33 +91,51 @@ accepted-leaves : (e s : List ℤ) → T (accepted (back-returned e s)) → back
 unfolding back-samples
 accepted-leaves e s = accepted-written (back-returned e s) (candidate e) s
 
--- the buffer after an accepted call holds a block that has the elements
-pub accepted-has : (e s : List ℤ) → T (accepted (back-returned e s)) → HasElements (back-samples e s) e
-accepted-has e s h =
-    let (range, has) = block-facts e (candidate e) (accepted-means e s h .2) in
-    rw (accepted-leaves e s h) (has-elements (candidate e) e (length-candidate e) range has)
+-- an accepted call had an accepted set and 64 samples, and leaves a block that has the elements
+pub accepted-means : (e s : List ℤ) → T (accepted (back-returned e s)) → AcceptedSet e × (length s ≡ places) × HasElements (back-samples e s) e
+accepted-means e s h =
+    let (set, room, test) = no-cause e s h in
+    let (range, has) = block-facts e (candidate e) test in
+    (set, room, rw (accepted-leaves e s h) (has-elements (candidate e) e (length-candidate e) range has))
 
--- with an accepted set and 64 samples
-module _ (e s : List ℤ) (set : AcceptedSet e) (room : length s ≡ places) where
+module _ (e s : List ℤ) (room : length s ≡ places) where
   -- where a block has the elements, the call is accepted and leaves that block
   pub accepts : (x : List ℤ) → HasElements x e → (back-returned e s ≡ accept) × (back-samples e s ≡ x)
   accepts x H =
-      let has = elements-are x e (set .size) H in
-      let same = only-candidate e x (H .size) has in
-      let yes : T (is-block-of e (candidate e)) = rw same (test-block e x (H .range) has) in
-      let answer : back-returned e s ≡ accept = decided e s set room ∙ unless-passes (is-block-of e (candidate e)) 5 accept yes in
-      (answer, accepted-leaves e s (rw answer tt) ∙ same)
+      let set : AcceptedSet e = rw (elements-are H) at (block-set x (H .range)) in
+      let test : T (is-block-of e (candidate e)) = rw (is-candidate H) (test-block e x (H .range) (elements-are H)) in
+      let answer : back-returned e s ≡ accept = decided e s set room ∙ unless-passes (is-block-of e (candidate e)) 5 accept test in
+      (answer, accepted-leaves e s (rw answer tt) ∙ is-candidate H)
 
-  -- where none has, it is refused by cause 5
-  pub refuses : ((x : List ℤ) → HasElements x e → ⊥) → back-returned e s ≡ record { number = 5; place = 0 }
-  refuses none = decided e s set room ∙ rw (fails (is-block-of e (candidate e)) none-has)
+  -- so it is accepted exactly when some block has them
+  pub exactly : T (accepted (back-returned e s)) ↔ ((x : List ℤ) × HasElements x e)
+  exactly = (λ h. (back-samples e s, accepted-means e s h .2), λ (x, H). rw (accepts x H .0) tt)
+
+  -- where none has an accepted set, it is refused by cause 5, and the samples are as they were
+  pub refuses : AcceptedSet e → ((x : List ℤ) → HasElements x e → ⊥) → (back-returned e s ≡ record { number = 5; place = 0 }) × (back-samples e s ≡ s)
+  unfolding back-samples
+  refuses set none = (answer, rw answer)
     where
       none-has : T (is-block-of e (candidate e)) → ⊥
       none-has t = let (range, has) = block-facts e (candidate e) t in none (candidate e) (has-elements (candidate e) e (length-candidate e) range has)
 
--- and a block is the only one
-pub only-one : (e x y : List ℤ) → length e ≡ components-size → HasElements x e → HasElements y e → x ≡ y
-only-one e x y l H K = sym (only-candidate e x (H .size) (elements-are x e l H)) ∙ only-candidate e y (K .size) (elements-are y e l K)
+      answer : back-returned e s ≡ record { number = 5; place = 0 }
+      answer = decided e s set room ∙ rw (fails (is-block-of e (candidate e)) none-has)
+
+-- and a refusal by cause 5 comes only where no block has them
+pub refused-means : (e s : List ℤ) → back-returned e s ≡ record { number = 5; place = 0 } → (x : List ℤ) → HasElements x e → ⊥
+refused-means e s r x H = go (ℕ-discrete (length s) places)
+  where
+    five : (n i : ℕ) → record { number = n; place = i } ≡ back-returned e s → n ≡ 5
+    five n i p = ap (λ (a : Returned). a .number) (p ∙ r)
+
+    go : Dec (length s ≡ places) → ⊥
+    go (yes room) = omega (arith, five 0 0 (sym (accepts e s room x H .0)))
+    go (no short) = omega (arith, five 1 0 (wrong-samples e s (H .whole) short .0))
+
+-- a block is the only one
+pub only-one : (e x y : List ℤ) → HasElements x e → HasElements y e → x ≡ y
+only-one e x y H K = sym (is-candidate H) ∙ is-candidate K
 
 -- round trips
 
@@ -115,12 +144,12 @@ pub back-of-forward : (x e s : List ℤ) → T (accepted (forward-returned x e))
     → (back-returned (forward-elements x e) s ≡ accept) × (back-samples (forward-elements x e) s ≡ x)
 back-of-forward x e s h room =
     let (size, whole, range) = forward.accepted-means x e h in
-    accepts (forward-elements x e) s (forward-set x e h) room x (has-elements x (forward-elements x e) size range (sym (forward.accepted-leaves x e h)))
+    accepts (forward-elements x e) s room x (has-elements x (forward-elements x e) size range (sym (forward.accepted-leaves x e h)))
 
 -- forward of what back writes is the elements
 pub forward-of-back : (e s t : List ℤ) → T (accepted (back-returned e s)) → length t ≡ components-size
     → (forward-returned (back-samples e s) t ≡ accept) × (forward-elements (back-samples e s) t ≡ e)
 forward-of-back e s t h whole =
-    let H = accepted-has e s h in
+    let H = accepted-means e s h .2 in
     let answer = forward.accepts (back-samples e s) t (H .size) whole (H .range) in
-    (answer, forward.accepted-leaves (back-samples e s) t (rw answer tt) ∙ elements-are (back-samples e s) e (accepted-means e s h .0 .size) H)
+    (answer, forward.accepted-leaves (back-samples e s) t (rw answer tt) ∙ elements-are H)

@@ -1,7 +1,7 @@
 -- What the way back returns and leaves (01, "What the library does" and "Why a set or sheet is turned back"), for any buffers.
 use mathlib.Core.Bool.{Bool, _&&_}
 use mathlib.Core.List.{List}
-use Prim.Native.Nat.{ℕ, _^_}
+use Prim.Native.Nat.{_^_}
 use lib.Dec.{eqb}
 use lib.IntN.{ℤ}
 use lib.ListN.{length}
@@ -16,12 +16,12 @@ use Rattle.answers.specs.Answer.{Returned, unless, lowest, accept, written}
 use Rattle.transform.specs.Forward.{sample, elements-of}
 use Rattle.accepted_sets.specs.Sets.{above-limit}
 
--- the one block that can have the elements e: summed back, the elements of a block are 16^2 times its samples (`inverse` of `dct`). Where
--- they are not, the quotient is rounded down, and no block has them.
+-- the one block that can have the elements e. A block's elements, summed back, are 16^2 times its samples (`inverse` of `dct`), so that for a
+-- block's set the division is exact. For any other set these are some 64 numbers, of which `is-block-of` says no.
 unfoldable pub candidate : List ℤ → List ℤ
 candidate e = table places (λ r. shrZ (component (summed-back dimensions (element-at e) r) 0) (16 ^ dimensions))
 
--- the samples x are in range, and their elements are e
+-- the 64 samples x are in range, and their elements are e
 abbrev pub is-block-of : List ℤ → List ℤ → Bool
 is-block-of e x = every places (λ i. in-range (sample x i)) && eqList (elements-of x) e
 

@@ -1,4 +1,17 @@
 // The way back (01, "What the library does"): 64 exact elements become the block that has them.
+//
+// `back` takes any buffers. An accepted call leaves the block in range that has the elements, and there is no other (`only-one`); a refused
+// one leaves the buffer as it was, and names the first cause. It is refused by cause 5 exactly when no block in range has them (`accepts`,
+// `refuses`).
+//
+// The work goes by rows, then columns, and undoes forward's steps: the transpose of the 8-point step makes 16 times a row of the step of
+// that row (`row-inverse`), so each pass divides by 16. That restores the block, if there is one (`Restores`). Whether there is one, forward
+// alone decides: it has to accept what was restored, and make all 512 numbers again. Where a sum is no multiple of 16, the division rounds
+// down, and there is no block.
+//
+// The transpose is factorised as the step is, with 22 products for 64: its odd frequencies go through the step's own odd half, which is its
+// own transpose. 32 bits suffice: a pass lets components grow sixteenfold at most, and divides by 16, so that none is above the limit of
+// cause 4 when a pass begins (`small-row-back`), and 27 bits are what a pass can take.
 ghost use mathlib.Core.Path.{_≡_};
 ghost use Prim.Native.Nat.{_+_, _*_, _-_, _/_, _%_, _<_};
 ghost use lib.IntN.{pos};
@@ -156,7 +169,7 @@ fn samples_of(x: [[Element; 8]; 8]) -> [i32; 64]
     r
 }
 
-// The block that has these elements, if there is one.
+// The block that has these elements, if there is one. If there is none, nothing is promised of what is returned.
 fn restored(elements: &[i32]) -> [i32; 64]
     requires { ⌜ AcceptedSet (now elements) ⌝ }
     ensures { λ r. ⌜ passes.Restores (now (elements .entry)) r ⌝ }
@@ -164,7 +177,7 @@ fn restored(elements: &[i32]) -> [i32; 64]
     samples_of(rows_back(transposed(rows_back(load(elements)))))
 }
 
-// Whether two buffers of equal length hold the same numbers.
+// Whether two buffers of 512 numbers hold the same.
 fn same(a: &[i32], b: &[i32]) -> bool
     requires { ⌜ length (now a) ≡ components-size ⌝ }
     requires { ⌜ length (now b) ≡ components-size ⌝ }
@@ -180,7 +193,7 @@ fn same(a: &[i32], b: &[i32]) -> bool
     true
 }
 
-// Whether a block is in range and has these elements: forward makes them again, and nothing less than all 512 numbers decides.
+// Whether a block is in range and has these elements: forward accepts it, and makes the same 512 numbers.
 fn is_block_of(elements: &[i32], block: [i32; 64]) -> bool
     requires { ⌜ length (now elements) ≡ components-size ⌝ }
     ensures { λ r. ⌜ r ≡ is-block-of (now (elements .entry)) block ⌝ }
@@ -204,7 +217,7 @@ fn store(block: [i32; 64], samples: &mut [i32])
     }
 }
 
-// The block of 64 samples that has these elements, or the reason why there is none; then `samples` is as it was.
+// The block of 64 samples that has these elements, or the reason why it is not written; then `samples` is as it was.
 pub fn back(elements: &[i32], samples: &mut [i32]) -> Answer
     ensures { λ r. ⌜ returned r ≡ back-returned (now (elements .entry)) (now (samples .entry)) ⌝ }
     ensures { λ r. ⌜ now (samples .exit) ≡ back-samples (now (elements .entry)) (now (samples .entry)) ⌝ }

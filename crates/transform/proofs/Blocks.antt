@@ -12,14 +12,13 @@ use Rattle.integers.proofs.Sums.{sum-cong}
 use Rattle.integers.proofs.Tables.{is-table, getD-table, length-table}
 use Rattle.ring.specs.Element.{component, add, number, mul, magnitudes}
 use Rattle.ring.proofs.Magnitude.{component-le}
-use Rattle.ring.proofs.Components.{Eight, eight-only, eight-mul, eight-sum}
+use Rattle.ring.proofs.Components.{eight-only, eight-mul, eight-sum}
 use Rattle.dct.specs.Limits.{sample-limit, components-size}
 use Rattle.dct.specs.Transform.{factor, element, step, Bounded}
 use Rattle.dct.proofs.Factors.{eight-factor}
 use Rattle.dct.proofs.Bound.{bound}
 use Rattle.dct.proofs.Dimensions.{first-dimension, element-double-sum, columns-then-rows}
 use Rattle.elements.specs.declared.Element.{Element}
-use Rattle.elements.specs.Bound.{Within}
 use Rattle.elements.specs.Buffer.{entry}
 use Rattle.elements.proofs.Bounds.{within-le, within-only}
 use Rattle.transform.specs.Forward.{sample, elements-of}
