@@ -70,7 +70,8 @@ module _ {e : List ℤ} {l a t : List (List Element)} (L : Rows (λ u v. element
         T .at j h .at u k ∙ A .at u k .at j h
         ∙ row-restored (entry (row l u)) (λ j. frequencies x j u) (λ j m. eight-frequencies j u) (λ v m. L .at u k .at v m ∙ element-is u v k m) j h
 
-    second-pass : {b : List (List Element)} → Rows (λ i. row-back (entry (row t i))) b → (i j : ℕ) → i < 8 → j < 8 → entry (row b j) i ≡ number (column x j i)
+    second-pass : {b : List (List Element)} → Rows (λ i. row-back (entry (row t i))) b → (i j : ℕ) → i < 8 → j < 8
+        → entry (row b j) i ≡ number (column x j i)
     second-pass B i j h k =
         B .at j k .at i h
         ∙ row-restored (entry (row t j)) (λ i. number (column x j i)) (λ i m. eight-only (column x j i) 0) (λ u m. first-pass j u k m) i h

@@ -145,7 +145,8 @@ unfolding sixteenth
 sixteenth-exact {a} e =
     sym (is-table (pos 0) a 8 _ (e .eight) (λ k h. sym (ap (λ z. shrZ z 16) (component-scale (pos 16) a k) ∙ shrZ-exact 16 (component a k) (lit< tt))))
 
-pub row-restored : (r x : ℕ → List ℤ) → ((n : ℕ) → n < 8 → Eight (x n)) → ((k : ℕ) → k < 8 → r k ≡ step x k) → (n : ℕ) → n < 8 → row-back r n ≡ x n
+pub row-restored : (r x : ℕ → List ℤ) → ((n : ℕ) → n < 8 → Eight (x n)) → ((k : ℕ) → k < 8 → r k ≡ step x k)
+    → (n : ℕ) → n < 8 → row-back r n ≡ x n
 unfolding row-back step-back
 row-restored r x eights e n h =
     ap sixteenth (sum-cong [] add 8 _ _ (λ k l. ap (λ a. mul a (factor k n)) (e k l)) ∙ row-inverse x eights n h) ∙ sixteenth-exact (eights n h)

@@ -59,34 +59,43 @@ difference-of-products-requires c κs =
 add-requires-2 : tie.Need-add-requires-2
 add-requires-2 c κs =
     let made = c .before .before .before .before in
-    let room = c .before .before .before .before .before .before .before .before .before .before .pre in
-    (rw (made .times .ensures, made .before .add .ensures) (room-p0 room), rw (c .before .sum-of-products .ensures) (room-sum room 1 2 3 6 tt))
+    let room = c .before .before .before .before .before .before .before .before .before .before .pre in (
+      rw (made .times .ensures, made .before .add .ensures) (room-p0 room),
+      rw (c .before .sum-of-products .ensures) (room-sum room 1 2 3 6 tt),
+    )
 
 add-requires-3 : tie.Need-add-requires-3
 add-requires-3 c κs =
     let made = c .before .before .before in
-    let room = c .before .before .before .before .before .before .before .before .before .before .before .pre in
-    (rw (made .times2 .ensures, made .before .subtract .ensures) (room-p1 room), rw (c .before .difference-of-products .ensures) (room-difference room 1 6 3 2 tt))
+    let room = c .before .before .before .before .before .before .before .before .before .before .before .pre in (
+      rw (made .times2 .ensures, made .before .subtract .ensures) (room-p1 room),
+      rw (c .before .difference-of-products .ensures) (room-difference room 1 6 3 2 tt),
+    )
 
 subtract-requires-2 : tie.Need-subtract-requires-2
 subtract-requires-2 c κs =
     let made = c .before .before .before .before in
-    let room = c .before .before .before .before .before .before .before .before .before .before .before .before .pre in
-    (rw (made .times2 .ensures, made .before .subtract .ensures) (room-p1 room), rw (c .before .before .difference-of-products .ensures) (room-difference room 1 6 3 2 tt))
+    let room = c .before .before .before .before .before .before .before .before .before .before .before .before .pre in (
+      rw (made .times2 .ensures, made .before .subtract .ensures) (room-p1 room),
+      rw (c .before .before .difference-of-products .ensures) (room-difference room 1 6 3 2 tt),
+    )
 
 subtract-requires-3 : tie.Need-subtract-requires-3
 subtract-requires-3 c κs =
     let made = c .before .before .before .before .before .before .before in
-    let room = c .before .before .before .before .before .before .before .before .before .before .before .before .before .pre in
-    (rw (made .times .ensures, made .before .add .ensures) (room-p0 room), rw (c .before .before .before .before .sum-of-products .ensures) (room-sum room 1 2 3 6 tt))
+    let room = c .before .before .before .before .before .before .before .before .before .before .before .before .before .pre in (
+      rw (made .times .ensures, made .before .add .ensures) (room-p0 room),
+      rw (c .before .before .before .before .sum-of-products .ensures) (room-sum room 1 2 3 6 tt),
+    )
 
 returns : tie.Need-returns
 returns c =
     let products = c .before .before .before .before in
-    let start = products .before .before .before .before .before .before .before .before .before .before in
+    let sums = products .before .before .before .before in
+    let start = sums .before .before .before .before .before .before in
     let x = entry (start .args .t1) in
     let half = even-back-half x (eights (start .pre)) in
-    let p0 = products .before .before .before .before .times .ensures ∙ ap (mul (cosine (pos 4))) (products .before .before .before .before .before .add .ensures) in
+    let p0 = sums .times .ensures ∙ ap (mul (cosine (pos 4))) (sums .before .add .ensures) in
     let p1 = products .before .before .times2 .ensures ∙ ap (mul (cosine (pos 4))) (products .before .before .before .subtract .ensures) in
     let q0 = products .before .sum-of-products .ensures in
     let q1 = products .difference-of-products .ensures in

@@ -46,7 +46,8 @@ loop-again : tie.Need-loop-again Inv-loop μ-loop
 loop-again c =
     let n = c .before .before .loop .n in
     let split : n ≡ 8 * (n / 8) + n % 8 = omega arith in
-    grid-more (omega arith) (c .before .before .loop .inv) (c .element-at .ensures ∙ ap (element-at (c .before .before .before .before .args .elements .now)) split)
+    let e = c .before .before .before .before .args .elements .now in
+    grid-more (omega arith) (c .before .before .loop .inv) (c .element-at .ensures ∙ ap (element-at e) split)
 
 returns : tie.Need-returns Inv-loop μ-loop
 returns c = grid-all (omega arith) (c .before .loop .inv)
