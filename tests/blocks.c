@@ -133,7 +133,7 @@ static void round_all(const int32_t *elements) {
 
 /* blocks of one sample, of extremes, and of any samples in range */
 static void blocks(void) {
-    int32_t s[64], elements[512];
+    int32_t s[64], t[64], elements[512], again[512];
     for (int n = 0; n < 400; n++) {
         for (int q = 0; q < 64; q++)
             s[q] = n < 64 ? (q == n ? 2047 : 0) : n < 200 ? (any(0, 1) ? 2047 : -2048) : any(-2048, 2047);
@@ -141,6 +141,8 @@ static void blocks(void) {
         check_elements(s, elements);
         round_all(elements);
         expect(check_back(elements) == 0, "a block's set does not go back");
+        expect(block_back(elements, 512, t, 64) == 0 && memcmp(s, t, sizeof s) == 0, "a block's set goes back to another block");
+        expect(block_forward(t, 64, again, 512) == 0 && memcmp(elements, again, sizeof elements) == 0, "what goes back has other elements");
     }
 }
 
@@ -173,6 +175,20 @@ static void sums_of_sets(void) {
     expect(returned > 0 && refused > 0, "the sums of sets are all accepted or all refused");
 }
 
+/* one sample out of range by one, at each place and at both ends: a block's set and a unit's */
+static void just_out_of_range(void) {
+    int32_t s[64], unit[64] = {0}, elements[512], others[512];
+    for (int n = 0; n < 128; n++) {
+        for (int q = 0; q < 64; q++) s[q] = any(-2048, 2047);
+        s[n / 2] = n % 2 ? 2047 : -2048;
+        unit[n / 2] = n % 2 ? 1 : -1;
+        expect(block_forward(s, 64, elements, 512) == 0 && block_forward(unit, 64, others, 512) == 0, "a block in range is refused");
+        for (int k = 0; k < 512; k++) elements[k] += others[k];
+        expect(check_back(elements) == 5, "a block out of range by one goes back");
+        unit[n / 2] = 0;
+    }
+}
+
 /* one element alone, of one component */
 static void single_components(void) {
     static const int32_t numbers[] = {1, -1, 2, 128, -128, 256, 262016, 262144, -262144, -262145, 262145, INT32_MAX, INT32_MIN};
@@ -185,7 +201,7 @@ static void single_components(void) {
         }
 }
 
-/* accepted sets that need not be a block's: each element's magnitudes sum to the limit, shared out at random */
+/* accepted sets that are no block's: each element's magnitudes sum to the limit, shared out at random */
 static void other_sets(void) {
     int32_t elements[512];
     for (int n = 0; n < 400; n++) {
@@ -218,6 +234,7 @@ static void refusals(void) {
         uint32_t b = n == 11 || n == 20 || n == 26 ? UINT32_MAX : (uint32_t)n;
         expect(block_round(elements, 512, b, coefficients, 64) == 3, "rounding: no width");
     }
+    expect(memcmp(elements, before, sizeof before) == 0, "a refused call of forward wrote into its buffer");
     expect(block_forward(s, 64, elements, 513) == 1 && block_round(elements, 513, 26, coefficients, 64) == 1, "a buffer too long");
     expect(block_round(elements, 512, 26, coefficients, 65) == 1, "a buffer too long");
     expect(block_back(elements, 513, samples, 64) == 1 && block_back(elements, 512, samples, 65) == 1, "a buffer too long");
@@ -228,8 +245,8 @@ static void refusals(void) {
         expect(block_back(elements, 512, samples, 64) == 4 && block_back(elements, 511, samples, 64) == 1, "back: an element above the limit");
         memcpy(elements, before, sizeof before);
     }
-    expect(memcmp(elements, before, sizeof before) == 0 && memcmp(coefficients, was, sizeof was) == 0 && memcmp(samples, was, sizeof was) == 0,
-           "a refused call wrote into a buffer");
+    expect(memcmp(coefficients, was, sizeof was) == 0, "a refused call of rounding wrote into its buffer");
+    expect(memcmp(samples, was, sizeof was) == 0, "a refused call of back wrote into its buffer");
 }
 
 int main(void) {
@@ -239,6 +256,7 @@ int main(void) {
     blocks();
     units_away();
     sums_of_sets();
+    just_out_of_range();
     single_components();
     other_sets();
     refusals();

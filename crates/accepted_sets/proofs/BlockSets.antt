@@ -4,8 +4,7 @@ use mathlib.Core.List.{List}
 use lib.Dec.{T}
 use lib.IntN.{ℤ}
 use Rattle.answers.specs.Answer.{accepted}
-use Rattle.transform.specs.Forward.{elements-of, forward-returned, forward-elements}
-use Rattle.transform.proofs.Range.{AllInRange}
+use Rattle.transform.specs.Forward.{AllInRange, elements-of, forward-returned, forward-elements}
 use Rattle.transform.proofs.Refusals.{accepted-means, accepted-leaves}
 use Rattle.transform.proofs.Meaning.{length-elements, magnitudes-of}
 use Rattle.accepted_sets.specs.Sets.{AcceptedSet}

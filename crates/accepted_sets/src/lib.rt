@@ -1,5 +1,5 @@
 // Accepted sets (01, "Rounding at a width"): 512 numbers in which no element's magnitudes sum above 262,144. The jobs that take a set turn
-// back any other, by 01's cause 4; what forward writes for a block in range is one (`forward-set`).
+// back any other, by 01's cause 1 or 4; what forward writes for a block in range is one (`forward-set`).
 //
 // `first_above_limit` finds the element that cause 4 names. The sums are u64: eight magnitudes of 2^31 each do not fit 32 bits.
 ghost use mathlib.Core.Path.{_≡_};

@@ -9,6 +9,7 @@ use lib.IntN.{ℤ, pos, negsuc, _+ℤ_, _-ℤ_, _*ℤ_, natAbs}
 use lib.Pow.{pow-pos}
 use lib.Signed.{_≤ℤ_, _<ℤ_}
 use Rattle.integers.specs.Sum.{sum}
+use Rattle.integers.proofs.Division.{rounded-down}
 use Rattle.integers.proofs.Sums.{sum-first}
 use Rattle.integers.proofs.Integer.{as-dif, dif-le, dif-lt, difs, *ℤ-pos1, ≤ℤ-trans, ≤ℤ-*ℤ, pos-≤ℤ, <ℤ→≤ℤ}
 use Rattle.ring.specs.Element.{component, magnitudes}
@@ -20,7 +21,6 @@ use Rattle.cuts.specs.Width.{TableAt, numerator, coefficient, distance}
 use Rattle.cuts.proofs.Order.{cross, less-yes}
 use Rattle.cuts.proofs.Below.{below-less-above}
 use Rattle.cuts.proofs.Tables.{under, over, under-below, over-above}
-use Rattle.cuts.proofs.Floor.{rounded-down}
 use Rattle.cuts.proofs.Bounds.{rising, falling, parts, double, within-all}
 
 -- rounding adds at most 1/2: y is (N + B)/2B rounded down

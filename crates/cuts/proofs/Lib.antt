@@ -4,6 +4,5 @@ pub mod Order
 pub mod Below
 pub mod Some
 pub mod Tables
-pub mod Floor
 pub mod Bounds
 pub mod Error

@@ -74,7 +74,7 @@ fn try_back(x: i32, k: usize)
     print(samples[63], b'\n');
 }
 
-// 511 numbers, all too large: cause 1 comes before 4. Then a buffer of 63 samples, and numbers all too large: cause 4 comes before 5.
+// 511 numbers, all too large: cause 1 comes before 4. Then a buffer of 63 samples. Then 512 numbers, all too large: cause 4 comes before 5.
 fn short_back() {
     let mut samples = [7i32; 64];
     print_answer(back(&[262145i32; 511], &mut samples));

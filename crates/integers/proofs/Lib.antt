@@ -1,6 +1,7 @@
 -- The laws that every other crate cites.
 pub mod Integer
 pub mod Magnitudes
+pub mod Division
 pub mod Signed
 pub mod Sums
 pub mod Search

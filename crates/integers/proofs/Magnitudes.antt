@@ -1,11 +1,11 @@
--- The magnitude of an integer, and division that rounds down.
+-- The magnitude of an integer.
 -- Assumes nothing.
-use mathlib.Core.Path.{_≡_, refl, sym, ap}
-use Prim.Native.Nat.{ℕ, zero, suc, _+_, _*_, _-_, _^_, _≤_, _<_}
+use mathlib.Core.Path.{_≡_, refl, sym}
+use Prim.Native.Nat.{zero, suc, _+_, _*_, _^_, _≤_, _<_}
 use native.Mathlib.Omega.{arith}
-use native.Mathlib.Nat.{add-zero, zero-add, le-refl, le-trans, le-suc, lt-of-le-of-lt, mul-div-right, div-eq-of-lt-le, div-le-of-le-mul, div-lt-iff-lt-mul}
+use native.Mathlib.Nat.{add-zero, zero-add, le-refl, le-trans, le-suc, lt-of-le-of-lt}
 use lib.IntN.{ℤ, pos, negsuc, _+ℤ_, _-ℤ_, _*ℤ_, negℤ, natAbs}
-use lib.Signed.{mag, shrZ}
+use lib.Signed.{mag}
 use mir.Syntax.{Width}
 use mir.Val.{SFits, hbits}
 use Rattle.integers.proofs.Integer.{up, down, add-parts, dif-natAbs}
@@ -39,15 +39,3 @@ mag-le (negsuc n) = le-suc n
 -- an integer whose magnitude is below half of the width's power fits the width
 pub small-fits : (w : Width) (a : ℤ) → natAbs a < 2 ^ hbits w → SFits w a
 small-fits w a h = record { sfits = lt-of-le-of-lt (mag-le a) h }
-
--- z/m rounded down: exact for a multiple of m, and small where z is
-
-pub shrZ-exact : (m : ℕ) (z : ℤ) → 0 < m → shrZ (pos m *ℤ z) m ≡ z
-shrZ-exact m (pos a) h = ap pos (mul-div-right a h)
-shrZ-exact m (negsuc a) h =
-    let e : m * suc a ≡ suc (a * m + (m - 1)) = omega arith in
-    rw e (ap negsuc (div-eq-of-lt-le m (omega arith) (omega arith)))
-
-pub shrZ-small : (m B : ℕ) (z : ℤ) → 0 < m → natAbs z ≤ m * B → natAbs (shrZ z m) ≤ B
-shrZ-small m B (pos a) h l = div-le-of-le-mul m l
-shrZ-small m B (negsuc a) h l = div-lt-iff-lt-mul h .1 (omega arith)

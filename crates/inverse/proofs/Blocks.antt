@@ -5,23 +5,22 @@ use mathlib.Core.List.{List}
 use Prim.Native.Nat.{ℕ, _+_, _*_, _/_, _%_, _<_}
 use native.Mathlib.Nat.{le-trans}
 use native.Mathlib.Omega.{arith}
-use lib.Dec.{lit<, lit≤}
+use lib.Dec.{lit≤}
 use lib.IntN.{ℤ, pos}
 use lib.ListN.{getD}
 use Rattle.integers.specs.Table.{table}
 use Rattle.integers.proofs.Tables.{is-table, length-table}
 use Rattle.ring.specs.Element.{component, number}
 use Rattle.ring.proofs.Magnitude.{component-le}
-use Rattle.ring.proofs.Components.{Eight, eight-only, eight-sum, eight-mul}
+use Rattle.ring.proofs.Components.{eight-only}
 use Rattle.dct.specs.Limits.{places, magnitudes-limit}
 use Rattle.dct.specs.Transform.{step}
-use Rattle.dct.proofs.Factors.{eight-factor}
 use Rattle.dct.proofs.Dimensions.{element-double-sum, columns-then-rows}
 use Rattle.elements.specs.declared.Element.{Element}
 use Rattle.elements.specs.Buffer.{element-at, entry}
 use Rattle.transform.specs.Forward.{sample, elements-of}
 use Rattle.transform.specs.Step.{Rows, Rooms, row}
-use Rattle.transform.proofs.Blocks.{column, frequencies}
+use Rattle.transform.proofs.Blocks.{column, frequencies, eight-frequencies}
 use Rattle.transform.proofs.Meaning.{element-of}
 use Rattle.accepted_sets.specs.Sets.{AcceptedSet}
 use Rattle.inverse.specs.Passes.{row-back, Restores}
@@ -56,10 +55,6 @@ module _ {e : List ℤ} {l a t : List (List Element)} (L : Rows (λ u v. element
 
   -- the block x that has the elements, if there is one: the first pass restores the frequencies of its columns, the second their samples
   module _ (x : List ℤ) (has : elements-of x ≡ e) where
-    eight-frequencies : (j u : ℕ) → Eight (frequencies x j u)
-    unfolding step
-    eight-frequencies j u = eight-sum 8 _ (lit< tt) (λ n h. eight-mul (eight-only (column x j n) 0) (eight-factor u n))
-
     element-is : (u v : ℕ) → u < 8 → v < 8 → element-at e (8 * u + v) ≡ step (λ j. frequencies x j u) v
     element-is u v h k =
         ap (λ l. element-at l (8 * u + v)) (sym has) ∙ element-of x (8 * u + v) (omega arith) ∙ element-double-sum (sample x) u v h k
@@ -68,7 +63,7 @@ module _ {e : List ℤ} {l a t : List (List Element)} (L : Rows (λ u v. element
     first-pass : (j u : ℕ) → j < 8 → u < 8 → entry (row t j) u ≡ frequencies x j u
     first-pass j u h k =
         T .at j h .at u k ∙ A .at u k .at j h
-        ∙ row-restored (entry (row l u)) (λ j. frequencies x j u) (λ j m. eight-frequencies j u) (λ v m. L .at u k .at v m ∙ element-is u v k m) j h
+        ∙ row-restored (entry (row l u)) (λ j. frequencies x j u) (λ j m. eight-frequencies x j u) (λ v m. L .at u k .at v m ∙ element-is u v k m) j h
 
     second-pass : {b : List (List Element)} → Rows (λ i. row-back (entry (row t i))) b → (i j : ℕ) → i < 8 → j < 8
         → entry (row b j) i ≡ number (column x j i)

@@ -1,4 +1,4 @@
--- The candidate: where a block has the elements, it is that block. So the call is accepted exactly when there is one.
+-- The candidate: where a block has the elements, it is that block.
 -- Assumes nothing.
 use mathlib.Core.Path.{_≡_, sym, ap, _∙_}
 use mathlib.Core.List.{List, []}
@@ -8,21 +8,20 @@ use lib.IntN.{ℤ, pos}
 use lib.ListN.{length}
 use lib.Signed.{shrZ}
 use mir.Facts.{and-yes, yes-and}
-use Rattle.integers.specs.Test.{every, eqList}
-use Rattle.integers.proofs.Magnitudes.{shrZ-exact}
+use Rattle.integers.specs.Test.{eqList}
+use Rattle.integers.proofs.Division.{shrZ-exact}
 use Rattle.integers.proofs.Sums.{sum-cong}
 use Rattle.integers.proofs.Tables.{is-table, length-table}
 use Rattle.integers.proofs.Tests.{eqList→≡, eqList-refl}
 use Rattle.ring.specs.Element.{component, add, mul}
 use Rattle.dct.specs.Inverse.{summed-back}
-use Rattle.dct.specs.Limits.{dimensions, places, in-range}
+use Rattle.dct.specs.Limits.{dimensions, places}
 use Rattle.dct.specs.Transform.{factors}
 use Rattle.dct.proofs.Inverse.{inverse}
 use Rattle.elements.specs.Buffer.{element-at}
-use Rattle.transform.specs.Forward.{sample, elements-of}
+use Rattle.transform.specs.Forward.{sample, AllInRange, elements-of}
 use Rattle.transform.proofs.Meaning.{element-of}
-use Rattle.transform.proofs.Range.{AllInRange}
-use Rattle.inverse.specs.Back.{candidate, is-block-of}
+use Rattle.inverse.specs.Back.{candidate, all-in-range, is-block-of}
 use Rattle.inverse.proofs.Comparison.{range-at, range-test}
 
 pub length-candidate : (e : List ℤ) → length (candidate e) ≡ places
@@ -30,7 +29,7 @@ unfolding candidate
 length-candidate e = length-table places (λ r. shrZ (component (summed-back dimensions (element-at e) r) 0) (16 ^ dimensions))
 
 -- the candidate for the elements of x is x, by the inverse theorem
-pub candidate-of : (x : List ℤ) → length x ≡ places → candidate (elements-of x) ≡ x
+candidate-of : (x : List ℤ) → length x ≡ places → candidate (elements-of x) ≡ x
 unfolding candidate summed-back
 candidate-of x size = sym (is-table (pos 0) x places _ size (λ r h. sym (place r h)))
   where
@@ -43,11 +42,11 @@ candidate-of x size = sym (is-table (pos 0) x places _ size (λ r h. sym (place 
 -- a block that has the elements, as a test and as facts
 
 pub test-block : (e x : List ℤ) → AllInRange x → elements-of x ≡ e → T (is-block-of e x)
-test-block e x range has = yes-and (every places (λ i. in-range (sample x i))) (eqList (elements-of x) e) (range-test x range) (rw has (eqList-refl e))
+test-block e x range has = yes-and (all-in-range x) (eqList (elements-of x) e) (range-test x range) (rw has (eqList-refl e))
 
 pub block-facts : (e x : List ℤ) → T (is-block-of e x) → AllInRange x × (elements-of x ≡ e)
 block-facts e x t =
-    let (range, has) = and-yes (every places (λ i. in-range (sample x i))) (eqList (elements-of x) e) t in
+    let (range, has) = and-yes (all-in-range x) (eqList (elements-of x) e) t in
     (range-at x range, eqList→≡ (elements-of x) e has)
 
 -- if any block has them, the candidate is that block

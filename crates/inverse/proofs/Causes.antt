@@ -7,16 +7,24 @@ use Prim.Native.Nat.{ℕ, _≤_, _<_}
 use lib.Dec.{T, eqb}
 use lib.IntN.{ℤ}
 use lib.ListN.{length}
-use borrow.Author.Tests.{eq-eqb, ne-eqb, lt-ltb, le-ltb, not-true, not-false}
+use borrow.Author.Tests.{eq-eqb, ne-eqb, lt-ltb, not-true, not-false}
 use Rattle.integers.specs.Search.{first}
 use Rattle.integers.proofs.Tests.{fails}
 use Rattle.dct.specs.Limits.{places, components-size}
 use Rattle.answers.specs.Answer.{Returned, unless, accept}
-use Rattle.answers.proofs.Accepted.{unless-passes}
-use Rattle.accepted_sets.specs.Sets.{above-limit}
+use Rattle.answers.proofs.Accepted.{unless-passes, lowest-passes}
+use Rattle.accepted_sets.specs.Sets.{above-limit, AcceptedSet}
+use Rattle.accepted_sets.proofs.Limit.{none-above, searched}
 use Rattle.inverse.specs.Back.{candidate, is-block-of, back-returned, back-samples}
 use Rattle.inverse.specs.Passes.{Restores}
 use Rattle.inverse.proofs.Candidate.{length-candidate, block-facts, only-candidate}
+
+-- past causes 1 and 4, the candidate decides
+pub decided : (e s : List ℤ) → AcceptedSet e → length s ≡ places → back-returned e s ≡ unless (is-block-of e (candidate e)) 5 accept
+unfolding back-returned
+decided e s set room =
+    rw (eq-eqb (length e) components-size (set .size), eq-eqb (length s) places room)
+    (lowest-passes places (above-limit e) 4 (unless (is-block-of e (candidate e)) 5 accept) (none-above set))
 
 module _ (e s : List ℤ) where
   -- the call returns r and leaves the buffer l
@@ -46,8 +54,7 @@ module _ (e s : List ℤ) where
       -- y is the block that the passes restore, and t whether it has the elements
       module _ (none : places ≤ p) {y : List ℤ} (R : Restores e y) {t : Bool} (b : t ≡ is-block-of e y) where
         compared : back-returned e s ≡ unless (is-block-of e (candidate e)) 5 accept
-        unfolding back-returned
-        compared = rw (eq-eqb (length e) components-size l, eq-eqb (length s) places k, ← f, le-ltb p places none)
+        compared = decided e s (searched l f none) k
 
         -- the candidate would be y
         pub no-block : not t ≡ true → Ends (record { number = 5; place = 0 }) s

@@ -1,4 +1,4 @@
--- The comparison that decides whether a block has the elements: forward's, and then number by number.
+-- What decides whether a block has the elements: forward accepts it, and the 512 numbers agree one by one.
 -- Assumes nothing.
 use mathlib.Core.Path.{_≡_, sym, ap, _∙_}
 use mathlib.Core.Bool.{true, false}
@@ -13,14 +13,13 @@ use lib.ListN.{length, getD}
 use lib.Seq.{ext-getD}
 use mir.Facts.{and-yes}
 use borrow.Author.Tests.{eq-eqb}
-use Rattle.integers.specs.Test.{every, eqList}
+use Rattle.integers.specs.Test.{eqList}
 use Rattle.integers.proofs.Tests.{holds, fails, every-at, every-passes, eqList→≡, eqList-refl}
 use Rattle.dct.specs.Limits.{places, components-size, in-range}
 use Rattle.answers.specs.Answer.{accepted}
-use Rattle.transform.specs.Forward.{sample, elements-of, forward-returned, forward-elements}
-use Rattle.transform.proofs.Range.{AllInRange}
+use Rattle.transform.specs.Forward.{sample, AllInRange, elements-of, forward-returned, forward-elements}
 use Rattle.transform.proofs.Refusals.{accepts, accepted-means, accepted-leaves}
-use Rattle.inverse.specs.Back.{is-block-of}
+use Rattle.inverse.specs.Back.{all-in-range, is-block-of}
 
 -- two buffers, number by number
 
@@ -49,10 +48,10 @@ differ a b i n = sym (fails (eqList a b) (λ t. n (ap (λ l. getD l i (pos 0)) (
 
 -- the range, as a test and as a fact
 
-pub range-at : (x : List ℤ) → T (every places (λ i. in-range (sample x i))) → AllInRange x
+pub range-at : (x : List ℤ) → T (all-in-range x) → AllInRange x
 range-at x t = record { at = λ i h. holds _ (every-at places (λ i. in-range (sample x i)) t i h) }
 
-pub range-test : (x : List ℤ) → AllInRange x → T (every places (λ i. in-range (sample x i)))
+pub range-test : (x : List ℤ) → AllInRange x → T (all-in-range x)
 range-test x range = every-passes places (λ i. in-range (sample x i)) (λ i h. rw (range .at i h) tt)
 
 -- forward of the block x, into a buffer that holds `made`
@@ -60,9 +59,9 @@ module _ (e x made : List ℤ) where
   pub forward-refuses : length x ≡ places → length made ≡ components-size → (forward-returned x made .number ≡ 0 → ⊥) → false ≡ is-block-of e x
   forward-refuses s l n =
       sym (fails (is-block-of e x)
-      (λ t. n (ap (λ r. r .number) (accepts x made s l (range-at x (and-yes (every places (λ i. in-range (sample x i))) (eqList (elements-of x) e) t .0))))))
+      (λ t. n (ap (λ r. r .number) (accepts x made s l (range-at x (and-yes (all-in-range x) (eqList (elements-of x) e) t .0))))))
 
   pub forward-accepts : forward-returned x made .number ≡ 0 → eqList (forward-elements x made) e ≡ is-block-of e x
   forward-accepts h =
       let t : T (accepted (forward-returned x made)) = rw (eq-eqb (forward-returned x made .number) 0 h) tt in
-      rw (accepted-leaves x made t, holds (every places (λ i. in-range (sample x i))) (range-test x (accepted-means x made t .2)))
+      rw (accepted-leaves x made t, holds (all-in-range x) (range-test x (accepted-means x made t .2)))

@@ -13,36 +13,25 @@ use lib.Dec.{T, eqb, eqb→eq}
 use lib.IntN.{ℤ, pos}
 use lib.ListN.{length, getD}
 use mir.Facts.{and-yes}
-use borrow.Author.Tests.{eq-eqb}
 use Rattle.integers.proofs.Tables.{is-table}
 use Rattle.integers.proofs.Tests.{fails}
 use Rattle.ring.specs.Element.{component}
 use Rattle.dct.specs.Limits.{places, components-size}
-use Rattle.dct.specs.Transform.{element, double-sum}
+use Rattle.dct.specs.Transform.{element}
 use Rattle.dct.proofs.Dimensions.{element-double-sum}
 use Rattle.answers.specs.Answer.{Returned, unless, lowest, accept, accepted}
-use Rattle.answers.proofs.Accepted.{unless-passes, lowest-passes, unless-accepted, lowest-accepted, accepted-written}
-use Rattle.transform.specs.Forward.{sample, elements-of, forward-returned, forward-elements}
-use Rattle.transform.proofs.Range.{AllInRange}
+use Rattle.answers.proofs.Accepted.{unless-passes, unless-accepted, lowest-accepted, accepted-written}
+use Rattle.transform.specs.Forward.{sample, AllInRange, elements-of, forward-returned, forward-elements}
 use Rattle.transform.proofs.Refusals as forward
 use Rattle.transform.proofs.Meaning.{length-elements, component-of}
 use Rattle.accepted_sets.specs.Sets.{above-limit, AcceptedSet}
 use Rattle.accepted_sets.proofs.BlockSets.{block-set}
-use Rattle.accepted_sets.proofs.Limit.{none-above, passed}
-use Rattle.inverse.specs.Back.{candidate, is-block-of, back-returned, back-samples}
+use Rattle.accepted_sets.proofs.Limit.{passed}
+use Rattle.inverse.specs.Back.{candidate, is-block-of, back-returned, back-samples, HasElements}
 use Rattle.inverse.proofs.Candidate.{length-candidate, test-block, block-facts, only-candidate}
-use Rattle.inverse.proofs.Causes.{wrong-samples}
+use Rattle.inverse.proofs.Causes.{decided, wrong-samples}
 
--- x is a block in range, and the 512 numbers e are its elements: "The exact element at (u,v) ... is the sum over all i, j of x(i,j) × t(u,i) × t(v,j).
--- ... It starts at index 8·(8u+v), component 0 first"
-pub record HasElements (x e : List ℤ) : Type 0 where
-  pub size : length x ≡ places
-  pub range : AllInRange x
-  pub whole : length e ≡ components-size
-  pub components : (u v k : ℕ) → u < 8 → v < 8 → k < 8
-      → getD e (8 * (8 * u + v) + k) (pos 0) ≡ component (double-sum (λ i j. sample x (8 * i + j)) u v) k
-
--- the same in the words of forward's definition
+-- a block that has the elements, in the words of forward's definition
 
 has-elements : (x e : List ℤ) → length x ≡ places → AllInRange x → elements-of x ≡ e → HasElements x e
 has-elements x e size range has = record {
@@ -69,13 +58,6 @@ is-candidate : {x e : List ℤ} → HasElements x e → candidate e ≡ x
 is-candidate {x} {e} H = only-candidate e x (H .size) (elements-are H)
 
 -- which calls are accepted
-
--- past causes 1 and 4, the candidate decides
-decided : (e s : List ℤ) → AcceptedSet e → length s ≡ places → back-returned e s ≡ unless (is-block-of e (candidate e)) 5 accept
-unfolding back-returned
-decided e s set room =
-    rw (eq-eqb (length e) components-size (set .size), eq-eqb (length s) places room)
-    (lowest-passes places (above-limit e) 4 (unless (is-block-of e (candidate e)) 5 accept) (none-above set))
 
 no-cause : (e s : List ℤ) → T (accepted (back-returned e s)) → AcceptedSet e × (length s ≡ places) × T (is-block-of e (candidate e))
 unfolding back-returned

@@ -11,7 +11,7 @@ use lib.ListN.{getD}
 use lib.Signed.{shrZ}
 use borrow.Author.Tests.{lt-ltb, le-ltb}
 use Rattle.integers.specs.Sum.{sum}
-use Rattle.integers.proofs.Magnitudes.{shrZ-exact, shrZ-small}
+use Rattle.integers.proofs.Division.{shrZ-exact, shrZ-small}
 use Rattle.integers.proofs.Sums.{sum-cong}
 use Rattle.integers.proofs.Tables.{is-table, length-table}
 use Rattle.ring.specs.Element.{component, add, scale, subtract, cosine, mul}

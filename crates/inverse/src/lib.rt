@@ -1,20 +1,19 @@
 // The way back (01, "What the library does"): 64 exact elements become the block that has them.
 //
 // `back` takes any buffers. An accepted call leaves the block in range that has the elements, and there is no other (`only-one`); a refused
-// one leaves the buffer as it was, and names the first cause. It is refused by cause 5 exactly when no block in range has them (`accepts`,
-// `refuses`).
+// one leaves the buffer as it was, and names the first cause. Of the accepted sets, cause 5 refuses exactly those that no block in range has
+// (`exactly`, `refuses`).
 //
-// The work goes by rows, then columns, and undoes forward's steps: the transpose of the 8-point step makes 16 times a row of the step of
-// that row (`row-inverse`), so each pass divides by 16. That restores the block, if there is one (`Restores`). Whether there is one, forward
-// alone decides: it has to accept what was restored, and make all 512 numbers again. Where a sum is no multiple of 16, the division rounds
-// down, and there is no block.
+// The work goes by rows, then columns, and undoes forward's steps: the transpose of the 8-point step takes the step of a row to 16 times that
+// row (`row-inverse`), so each pass divides by 16. For the elements of a block both divisions are exact, and the block is restored
+// (`Restores`). For any others they round down, and what comes out is no block that has them. So forward decides: it has to accept what was
+// restored, and make the same 512 numbers of it.
 //
-// The transpose is factorised as the step is, with 22 products for 64: its odd frequencies go through the step's own odd half, which is its
-// own transpose. 32 bits suffice: a pass lets components grow sixteenfold at most, and divides by 16, so that none is above the limit of
-// cause 4 when a pass begins (`small-row-back`), and 27 bits are what a pass can take.
+// The transpose is factorised as the step is, with 22 products in place of 64: its odd frequencies go through the step's own odd half, whose
+// matrix is symmetric. 32 bits suffice: a pass lets components grow sixteenfold at most, and then divides by 16, so that none is above the
+// limit of cause 4 when a pass begins (`small-row-back`); a pass could take 27 bits.
 ghost use mathlib.Core.Path.{_≡_};
-ghost use Prim.Native.Nat.{_+_, _*_, _-_, _/_, _%_, _<_};
-ghost use lib.IntN.{pos};
+ghost use Prim.Native.Nat.{_%_, _*_, _+_, _/_};
 ghost use lib.ListN.{length};
 ghost use Rattle.integers.specs.Table.{table};
 ghost use Rattle.integers.specs.Test.{eqList};
@@ -119,7 +118,7 @@ fn row_back(x: [Element; 8]) -> [Element; 8]
     r
 }
 
-// Every row.
+// Each row so.
 fn rows_back(x: [[Element; 8]; 8]) -> [[Element; 8]; 8]
     requires { ⌜ Rooms 27 x ⌝ }
     ensures { λ r. ⌜ Rows (λ i. passes.row-back (entry (row x i))) r ⌝ }
@@ -149,7 +148,7 @@ fn load(elements: &[i32]) -> [[Element; 8]; 8]
 }
 
 // u_0
-fn whole_part(a: Element) -> i32
+fn component_0(a: Element) -> i32
     ensures { λ r. ⌜ r ≡ ring.component (a .components) 0 ⌝ }
 {
     let u = a.components;
@@ -163,7 +162,7 @@ fn samples_of(x: [[Element; 8]; 8]) -> [i32; 64]
     let mut r = [0i32; 64];
     let mut n = 0;
     while n < PLACES {
-        r[n] = whole_part(x[n % 8][n / 8]);
+        r[n] = component_0(x[n % 8][n / 8]);
         n += 1;
     }
     r

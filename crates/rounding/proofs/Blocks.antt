@@ -13,8 +13,7 @@ use borrow.Author.Tests.{eq-eqb}
 use Rattle.dct.specs.Limits.{places, components-size}
 use Rattle.answers.specs.Answer.{unless, lowest, accept, accepted}
 use Rattle.answers.proofs.Accepted.{unless-passes, lowest-passes, unless-accepted, lowest-accepted}
-use Rattle.transform.specs.Forward.{elements-of, forward-returned, forward-elements}
-use Rattle.transform.proofs.Range.{AllInRange}
+use Rattle.transform.specs.Forward.{AllInRange, elements-of, forward-returned, forward-elements}
 use Rattle.accepted_sets.specs.Sets.{above-limit}
 use Rattle.accepted_sets.proofs.Limit.{none-above, passed}
 use Rattle.accepted_sets.proofs.BlockSets.{block-set, forward-set}

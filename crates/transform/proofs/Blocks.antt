@@ -12,7 +12,7 @@ use Rattle.integers.proofs.Sums.{sum-cong}
 use Rattle.integers.proofs.Tables.{is-table, getD-table, length-table}
 use Rattle.ring.specs.Element.{component, add, number, mul, magnitudes}
 use Rattle.ring.proofs.Magnitude.{component-le}
-use Rattle.ring.proofs.Components.{eight-only, eight-mul, eight-sum}
+use Rattle.ring.proofs.Components.{Eight, eight-only, eight-mul, eight-sum}
 use Rattle.dct.specs.Limits.{sample-limit, components-size}
 use Rattle.dct.specs.Transform.{factor, element, step, Bounded}
 use Rattle.dct.proofs.Factors.{eight-factor}
@@ -21,9 +21,9 @@ use Rattle.dct.proofs.Dimensions.{first-dimension, element-double-sum, columns-
 use Rattle.elements.specs.declared.Element.{Element}
 use Rattle.elements.specs.Buffer.{entry}
 use Rattle.elements.proofs.Bounds.{within-le, within-only}
-use Rattle.transform.specs.Forward.{sample, elements-of}
+use Rattle.transform.specs.Forward.{sample, AllInRange, elements-of}
 use Rattle.transform.specs.Step.{Rows, Rooms, row}
-use Rattle.transform.proofs.Range.{AllInRange, in-range-small}
+use Rattle.transform.proofs.Range.{in-range-small}
 
 step-cong : (r s : ℕ → List ℤ) (k : ℕ) → ((n : ℕ) → n < 8 → r n ≡ s n) → step r k ≡ step s k
 unfolding step
@@ -35,6 +35,10 @@ column x j i = sample x (8 * i + j)
 
 abbrev pub frequencies : List ℤ → ℕ → ℕ → List ℤ
 frequencies x j = step (λ i. number (column x j i))
+
+pub eight-frequencies : (x : List ℤ) (j u : ℕ) → Eight (frequencies x j u)
+unfolding step
+eight-frequencies x j u = eight-sum 8 _ (lit< tt) (λ n h. eight-mul (eight-only (column x j n) 0) (eight-factor u n))
 
 module _ {x : List ℤ} (range : AllInRange x) where
   small : (q : ℕ) → q < 64 → natAbs (sample x q) ≤ sample-limit
@@ -56,10 +60,9 @@ module _ {x : List ℤ} (range : AllInRange x) where
   }
 
   pub room-rows : {t : List (List Element)} → Rows (λ u j. frequencies x j u) t → Rooms 27 t
-  unfolding step
   room-rows T = record {
     rooms = λ u h. record {
-      eights = λ j l. rw (T .at u h .at j l) (eight-sum 8 _ (lit< tt) (λ n k. eight-mul (eight-only (column x j n) 0) (eight-factor u n)) .eight);
+      eights = λ j l. rw (T .at u h .at j l) (eight-frequencies x j u .eight);
       within = λ j l. rw (T .at u h .at j l) (record { within = λ k. le-trans (component-le (frequencies x j u) k) (le-trans (frequencies-small j u l h) (lit≤ tt)) });
     };
   }

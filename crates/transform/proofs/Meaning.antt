@@ -20,8 +20,7 @@ use Rattle.dct.proofs.Dimensions.{element-double-sum}
 use Rattle.dct.proofs.Classes.{zero-component}
 use Rattle.answers.specs.Answer.{accepted}
 use Rattle.elements.specs.Buffer.{element-at}
-use Rattle.transform.specs.Forward.{sample, elements-of, forward-returned, forward-elements}
-use Rattle.transform.proofs.Range.{AllInRange}
+use Rattle.transform.specs.Forward.{sample, AllInRange, elements-of, forward-returned, forward-elements}
 use Rattle.transform.proofs.Blocks.{bounded}
 use Rattle.transform.proofs.Refusals.{accepted-means, accepted-leaves}
 

@@ -2,7 +2,6 @@
 -- Assumes nothing.
 use mathlib.Core.Path.{_≡_, refl, sym, ap, _∙_, subst}
 use mathlib.Core.Bool.{Bool, true, false, not, _&&_}
-use mathlib.Core.List.{List}
 use Prim.Native.Nat.{ℕ, suc, _≤_, _<_}
 use native.Mathlib.Decide.{decLt}
 use native.Mathlib.Omega.{arith}
@@ -11,12 +10,7 @@ use lib.IntN.{ℤ, pos, negsuc, natAbs}
 use lib.Signed.{ltZ}
 use mir.Facts.{and-yes}
 use borrow.Author.Tests.{lt-ltb, le-ltb}
-use Rattle.dct.specs.Limits.{places, in-signed-range, in-range}
-use Rattle.transform.specs.Forward.{sample}
-
--- every sample of a block is in range
-pub record AllInRange (x : List ℤ) : Type 0 where
-  pub at : (i : ℕ) → i < places → in-range (sample x i) ≡ true
+use Rattle.dct.specs.Limits.{in-signed-range}
 
 -- for naturals, S < n is the negation of n < S + 1
 beyond : (S n : ℕ) → ltb S n ≡ not (ltb n (suc S))

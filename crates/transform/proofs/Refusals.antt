@@ -15,8 +15,7 @@ use Rattle.integers.proofs.Search.{before-first}
 use Rattle.dct.specs.Limits.{places, components-size, in-range}
 use Rattle.answers.specs.Answer.{Returned, lowest, accept, accepted}
 use Rattle.answers.proofs.Accepted.{lowest-passes, unless-accepted, lowest-accepted, accepted-written}
-use Rattle.transform.specs.Forward.{sample, elements-of, forward-returned, forward-elements}
-use Rattle.transform.proofs.Range.{AllInRange}
+use Rattle.transform.specs.Forward.{sample, AllInRange, elements-of, forward-returned, forward-elements}
 
 abbrev faulty : List ℤ → ℕ → Bool
 faulty x i = not (in-range (sample x i))

@@ -1,7 +1,8 @@
 -- What the forward job returns and leaves (01, "Elements" and "Why a set or sheet is turned back"), for any buffers.
-use mathlib.Core.Bool.{not, _&&_}
+use mathlib.Core.Path.{_≡_}
+use mathlib.Core.Bool.{true, not, _&&_}
 use mathlib.Core.List.{List}
-use Prim.Native.Nat.{ℕ, _/_, _%_}
+use Prim.Native.Nat.{ℕ, _/_, _%_, _<_}
 use lib.Dec.{eqb}
 use lib.IntN.{ℤ, pos}
 use lib.ListN.{length, getD}
@@ -14,6 +15,10 @@ use Rattle.answers.specs.Answer.{Returned, unless, lowest, accept, written}
 -- sample q of a buffer; sample (i,j) of a block has the index 8i+j
 abbrev pub sample : List ℤ → ℕ → ℤ
 sample x q = getD x q (pos 0)
+
+-- every sample of a block is in range
+pub record AllInRange (x : List ℤ) : Type 0 where
+  pub at : (i : ℕ) → i < places → in-range (sample x i) ≡ true
 
 -- the components of a block's exact elements, element after element, component 0 first
 unfoldable pub elements-of : List ℤ → List ℤ

@@ -24,20 +24,20 @@ abbrev μ-loop : tie.MeasureT-loop
 loop-holds : tie.Need-loop-holds Inv-loop μ-loop
 loop-holds c = filled-none (search needs)
 
-mul-whole-part : tie.Need-mul-whole-part Inv-loop μ-loop
-mul-whole-part c = omega arith
+mul-component-0 : tie.Need-mul-component-0 Inv-loop μ-loop
+mul-component-0 c = omega arith
 
-mul-whole-part-2 : tie.Need-mul-whole-part-2 Inv-loop μ-loop
-mul-whole-part-2 c = omega arith
+mul-component-0-2 : tie.Need-mul-component-0-2 Inv-loop μ-loop
+mul-component-0-2 c = omega arith
 
-index-1-whole-part : tie.Need-index-1-whole-part Inv-loop μ-loop
-index-1-whole-part c = omega arith
+index-1-component-0 : tie.Need-index-1-component-0 Inv-loop μ-loop
+index-1-component-0 c = omega arith
 
-index-2-whole-part : tie.Need-index-2-whole-part Inv-loop μ-loop
-index-2-whole-part c = omega arith
+index-2-component-0 : tie.Need-index-2-component-0 Inv-loop μ-loop
+index-2-component-0 c = omega arith
 
-whole-part-requires : tie.Need-whole-part-requires Inv-loop μ-loop
-whole-part-requires c κs = tt
+component-0-requires : tie.Need-component-0-requires Inv-loop μ-loop
+component-0-requires c κs = tt
 
 mul-r : tie.Need-mul-r Inv-loop μ-loop
 mul-r c = omega arith
@@ -53,9 +53,9 @@ loop-less c = omega arith
 
 loop-again : tie.Need-loop-again Inv-loop μ-loop
 loop-again c =
-    let x = c .whole-part .result in
+    let x = c .component-0 .result in
     let read : toZ w32 (ofZ w32 x) ≡ x = toZ-ofZ (search needs) in
-    filled-more (omega arith) (c .before .before .before .loop .inv) (read ∙ c .whole-part .ensures)
+    filled-more (omega arith) (c .before .before .before .loop .inv) (read ∙ c .component-0 .ensures)
 
 returns : tie.Need-returns Inv-loop μ-loop
 returns c = filled-all (omega arith) (c .before .loop .inv)
@@ -63,5 +63,5 @@ returns c = filled-all (omega arith) (c .before .loop .inv)
 pub samples-of-spec : {M : Type 1} → statement M
 samples-of-spec =
     tie.close
-    (tie.spec Inv-loop μ-loop loop-holds mul-whole-part mul-whole-part-2 index-1-whole-part index-2-whole-part whole-part-requires mul-r
+    (tie.spec Inv-loop μ-loop loop-holds mul-component-0 mul-component-0-2 index-1-component-0 index-2-component-0 component-0-requires mul-r
     array-set-from-r add-n loop-less loop-again returns)
