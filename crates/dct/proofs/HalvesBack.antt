@@ -12,9 +12,10 @@ use Rattle.integers.specs.Test.{every}
 use Rattle.integers.proofs.Tests.{every-at}
 use Rattle.ring.specs.Element.{add, subtract, cosine, basis-product, mul}
 use Rattle.ring.proofs.Components.{Eight}
-use Rattle.dct.specs.Inverse.{step-back, even-back}
-use Rattle.dct.specs.Transform.{angle, factor, half-step}
+use Rattle.dct.specs.Inverse.{step-back, even-back, odd-back}
+use Rattle.dct.specs.Transform.{angle, factor}
 use Rattle.dct.proofs.Factorised.{Expression, input, plus, minus, times, value, makes, plain-sum, combination, combination-value}
+use Rattle.dct.proofs.Halves.{odd}
 
 -- a whole row from its halves
 
@@ -22,7 +23,7 @@ abbrev evens : ℕ → Expression
 evens n = combination 3 (λ i. angle (2 * i) n) (λ i. input (2 * i))
 
 abbrev odds : ℕ → Expression
-odds n = combination 3 (angle (2 * n + 1)) (λ i. input (2 * i + 1))
+odds n = combination 3 (λ i. angle (2 * i + 1) n) (λ i. input (2 * i + 1))
 
 sum-at : ℕ → Bool
 sum-at n = makes 8 (λ k. factor k n) (plus (evens n) (odds n))
@@ -42,24 +43,24 @@ evens-value : (x : ℕ → List ℤ) (n : ℕ) → even-back (λ i. x (2 * i)) n
 unfolding even-back factor
 evens-value x n = combination-value 3 (λ i. angle (2 * i) n) (λ i. input (2 * i)) x
 
-odds-value : (x : ℕ → List ℤ) (n : ℕ) → half-step (λ i. x (2 * i + 1)) (2 * n + 1) ≡ value (odds n) x
-unfolding half-step factor
-odds-value x n = combination-value 3 (angle (2 * n + 1)) (λ i. input (2 * i + 1)) x
+odds-value : (x : ℕ → List ℤ) (n : ℕ) → odd-back (λ i. x (2 * i + 1)) n ≡ value (odds n) x
+unfolding odd-back factor
+odds-value x n = combination-value 3 (λ i. angle (2 * i + 1) n) (λ i. input (2 * i + 1)) x
 
 module _ (x : ℕ → List ℤ) (eights : (n : ℕ) → n < 8 → Eight (x n)) (n : ℕ) (h : n < 4) where
-  pub back-sum : add (even-back (λ i. x (2 * i)) n) (half-step (λ i. x (2 * i + 1)) (2 * n + 1)) ≡ step-back x n
+  pub back-sum : add (even-back (λ i. x (2 * i)) n) (odd-back (λ i. x (2 * i + 1)) n) ≡ step-back x n
   unfolding step-back sum-at
   back-sum =
       ap₂ add (evens-value x n) (odds-value x n)
       ∙ plain-sum 8 x eights (λ k. factor k n) (plus (evens n) (odds n)) (every-at 4 sum-at sum-test n h)
 
-  pub back-difference : subtract (even-back (λ i. x (2 * i)) n) (half-step (λ i. x (2 * i + 1)) (2 * n + 1)) ≡ step-back x (7 - n)
+  pub back-difference : subtract (even-back (λ i. x (2 * i)) n) (odd-back (λ i. x (2 * i + 1)) n) ≡ step-back x (7 - n)
   unfolding step-back difference-at
   back-difference =
       ap₂ subtract (evens-value x n) (odds-value x n)
       ∙ plain-sum 8 x eights (λ k. factor k (7 - n)) (minus (evens n) (odds n)) (every-at 4 difference-at difference-test n h)
 
--- the terms of the even frequencies
+-- the halves: the terms of the even frequencies, and those of the odd ones, whose matrix is symmetric, so that the step's forms serve
 
 abbrev pub even-back-form : ℕ → Expression
 even-back-form n =
@@ -78,7 +79,18 @@ even-back-test : T (every 4 even-back-at)
 unfolding even-back-at factor cosine mul basis-product
 even-back-test = tt
 
+odd-back-at : ℕ → Bool
+odd-back-at n = makes 4 (λ i. factor (2 * i + 1) n) (odd n)
+
+odd-back-test : T (every 4 odd-back-at)
+unfolding odd-back-at factor cosine mul basis-product
+odd-back-test = tt
+
 module _ (x : ℕ → List ℤ) (eights : (n : ℕ) → n < 4 → Eight (x n)) (n : ℕ) (h : n < 4) where
   pub even-back-half : value (even-back-form n) x ≡ even-back x n
   unfolding even-back even-back-at
   even-back-half = plain-sum 4 x eights (λ i. factor (2 * i) n) (even-back-form n) (every-at 4 even-back-at even-back-test n h)
+
+  pub odd-back-half : value (odd n) x ≡ odd-back x n
+  unfolding odd-back odd-back-at
+  odd-back-half = plain-sum 4 x eights (λ i. factor (2 * i + 1) n) (odd n) (every-at 4 odd-back-at odd-back-test n h)

@@ -17,8 +17,8 @@ use Rattle.integers.proofs.Tables.{is-table, length-table}
 use Rattle.ring.specs.Element.{component, add, scale, subtract, cosine, mul}
 use Rattle.ring.proofs.Product.{mul-comm}
 use Rattle.ring.proofs.Components.{Eight, eight-add, eight-scale, eight-mul, eight-sum, component-scale}
-use Rattle.dct.specs.Inverse.{step-back, even-back}
-use Rattle.dct.specs.Transform.{angle, factor, step, half-step}
+use Rattle.dct.specs.Inverse.{step-back, even-back, odd-back}
+use Rattle.dct.specs.Transform.{angle, factor, step}
 use Rattle.dct.proofs.Factors.{eight-factor}
 use Rattle.dct.proofs.HalvesBack.{back-sum, back-difference}
 use Rattle.dct.proofs.Inverse.{row-inverse}
@@ -92,22 +92,22 @@ module _ {x : List Element} (room : Room 8 27 x) where
   room-odds = small-room (bits 27) (omega arith) small-odds
 
   -- what they give
-  module _ {e o : List Element} (E : Row 4 (even-back (entry evens)) e) (O : Row 4 (λ i. half-step (entry odds) (2 * i + 1)) o) where
+  module _ {e o : List Element} (E : Row 4 (even-back (entry evens)) e) (O : Row 4 (odd-back (entry odds)) o) where
     pub room-even : Room 4 30 e
     unfolding even-back
     room-even = small-room (4 * (bits 27 + bits 27)) (lit≤ tt) (λ n h. rw (E .at n h) (small-products (entry evens) (λ i. 2 * i) (λ i. n) (lit< tt) small-evens))
 
     pub room-odd : Room 4 30 o
-    unfolding half-step
-    room-odd = small-room (4 * (bits 27 + bits 27)) (lit≤ tt) (λ n h. rw (O .at n h) (small-products (entry odds) (λ i. 2 * n + 1) (λ i. i) (lit< tt) small-odds))
+    unfolding odd-back
+    room-odd = small-room (4 * (bits 27 + bits 27)) (lit≤ tt) (λ n h. rw (O .at n h) (small-products (entry odds) (λ i. 2 * i + 1) (λ i. n) (lit< tt) small-odds))
 
     even-is : (n : ℕ) → n < 4 → entry e n ≡ even-back (λ i. entry x (2 * i)) n
     unfolding even-back
     even-is n h = E .at n h ∙ sum-cong [] add 4 _ _ (λ i l. ap (λ a. mul a (factor (2 * i) n)) (evens-are .at i l))
 
-    odd-is : (n : ℕ) → n < 4 → entry o n ≡ half-step (λ i. entry x (2 * i + 1)) (2 * n + 1)
-    unfolding half-step
-    odd-is n h = O .at n h ∙ sum-cong [] add 4 _ _ (λ i l. ap (λ a. mul a (factor (2 * n + 1) i)) (odds-are .at i l))
+    odd-is : (n : ℕ) → n < 4 → entry o n ≡ odd-back (λ i. entry x (2 * i + 1)) n
+    unfolding odd-back
+    odd-is n h = O .at n h ∙ sum-cong [] add 4 _ _ (λ i l. ap (λ a. mul a (factor (2 * i + 1) n)) (odds-are .at i l))
 
     pub joined : (n : ℕ) → n < 8 → butterfly (entry e) (entry o) n ≡ step-back (entry x) n
     unfolding butterfly

@@ -9,8 +9,7 @@
 // (`Restores`). For any others they round down, and what comes out is no block that has them. So forward decides: it has to accept what was
 // restored, and make the same 512 numbers of it.
 //
-// The transpose is factorised as the step is, with 22 products in place of 64: its odd frequencies go through the step's own odd half, whose
-// matrix is symmetric. 32 bits suffice: a pass lets components grow sixteenfold at most, and then divides by 16, so that none is above the
+// The transpose is factorised as the step is, with 22 products in place of 64. 32 bits suffice: a pass lets components grow sixteenfold at most, and then divides by 16, so that none is above the
 // limit of cause 4 when a pass begins (`small-row-back`); a pass could take 27 bits.
 ghost use mathlib.Core.Path.{_≡_};
 ghost use Prim.Native.Nat.{_%_, _*_, _+_, _/_};
@@ -18,7 +17,7 @@ ghost use lib.ListN.{length};
 ghost use Rattle.integers.specs.Table.{table};
 ghost use Rattle.integers.specs.Test.{eqList};
 ghost use Rattle.ring.specs.Element as ring;
-ghost use Rattle.dct.specs.Inverse.{even-back, step-back};
+ghost use Rattle.dct.specs.Inverse.{even-back, odd-back, step-back};
 ghost use Rattle.dct.specs.Limits.{components-size, places};
 ghost use Rattle.elements.specs.Buffer.{Row, element-at, entry};
 ghost use Rattle.answers.specs.Answer.{returned};
@@ -38,11 +37,10 @@ use elements::subtract;
 use elements::times;
 use transform::difference_of_products;
 use transform::forward;
-use transform::odd;
 use transform::sum_of_products;
 use transform::transposed;
 
-// What the frequencies 0, 2, 4 and 6 of a row give at the places 0 to 3, and again at 7 to 4.
+// What the frequencies 0, 2, 4 and 6 of a row give at the places 0 to 3; at 7 to 4 they give the same.
 fn even_back(e: [Element; 4]) -> [Element; 4]
     requires { ⌜ Room 4 28 e ⌝ }
     ensures { λ r. ⌜ Row 4 (even-back (entry e)) r ⌝ }
@@ -59,6 +57,32 @@ fn even_back(e: [Element; 4]) -> [Element; 4]
     let x1 = add(p1, q1);
     let x2 = subtract(p1, q1);
     let x3 = subtract(p0, q0);
+    [x0, x1, x2, x3]
+}
+
+// What the frequencies 1, 3, 5 and 7 give there; at 7 to 4 they give the negative. The matrix is symmetric, so this is the step's `odd` once
+// more: a function of its own, because two callers would keep the compiler from working it into either.
+fn odd_back(e: [Element; 4]) -> [Element; 4]
+    requires { ⌜ Room 4 28 e ⌝ }
+    ensures { λ r. ⌜ Row 4 (odd-back (entry e)) r ⌝ }
+{
+    let e1 = e[0];
+    let e3 = e[1];
+    let e5 = e[2];
+    let e7 = e[3];
+    let x0 = add(sum_of_products(e1, 1, e3, 3), sum_of_products(e5, 5, e7, 7));
+    let x1 = subtract(
+        difference_of_products(e1, 3, e3, 7),
+        sum_of_products(e5, 1, e7, 5),
+    );
+    let x2 = add(
+        difference_of_products(e1, 5, e3, 1),
+        sum_of_products(e5, 7, e7, 3),
+    );
+    let x3 = add(
+        difference_of_products(e1, 7, e3, 5),
+        difference_of_products(e5, 3, e7, 1),
+    );
     [x0, x1, x2, x3]
 }
 
@@ -99,7 +123,7 @@ fn step_back(x: [Element; 8]) -> [Element; 8]
     ensures { λ r. ⌜ Row 8 (step-back (entry x)) r ⌝ }
 {
     let e = even_back([x[0], x[2], x[4], x[6]]);
-    let o = odd([x[1], x[3], x[5], x[7]]);
+    let o = odd_back([x[1], x[3], x[5], x[7]]);
     butterflies(e, o)
 }
 

@@ -81,7 +81,7 @@ fn even(s: [Element; 4]) -> [Element; 4]
 }
 
 // The frequencies 1, 3, 5 and 7, from its four differences.
-pub fn odd(d: [Element; 4]) -> [Element; 4]
+fn odd(d: [Element; 4]) -> [Element; 4]
     requires { ⌜ Room 4 28 d ⌝ }
     ensures { λ r. ⌜ Row 4 (λ i. dct.half-step (entry d) (2 * i + 1)) r ⌝ }
 {

@@ -33,23 +33,23 @@ array-copy-out-t16-2 c = search needs
 array-copy-out-t13-2 : tie.Need-array-copy-out-t13-2
 array-copy-out-t13-2 c = search needs
 
-odd-requires : tie.Need-odd-requires
-odd-requires c κs = room-odds (c .before .before .before .before .before .before .before .before .before .pre)
+odd-back-requires : tie.Need-odd-back-requires
+odd-back-requires c κs = room-odds (c .before .before .before .before .before .before .before .before .before .pre)
 
 butterflies-requires : tie.Need-butterflies-requires
 butterflies-requires c κs =
     let made = c .before .before .before .before .before in
     let room = made .before .before .before .before .before .pre in
-    (room-even room (made .even-back .ensures) (c .odd .ensures), room-odd room (made .even-back .ensures) (c .odd .ensures))
+    (room-even room (made .even-back .ensures) (c .odd-back .ensures), room-odd room (made .even-back .ensures) (c .odd-back .ensures))
 
 returns : tie.Need-returns
 returns c =
     let made = c .before .before .before .before .before .before in
     let room = made .before .before .before .before .before .pre in
-    record { at = λ n h. c .butterflies .ensures .at n h ∙ joined room (made .even-back .ensures) (c .before .odd .ensures) n h }
+    record { at = λ n h. c .butterflies .ensures .at n h ∙ joined room (made .even-back .ensures) (c .before .odd-back .ensures) n h }
 
 pub step-back-spec : {M : Type 1} → statement M
 step-back-spec =
     tie.close
     (tie.spec array-copy-out-t7 array-copy-out-t10 array-copy-out-t13 array-copy-out-t16 even-back-requires array-copy-out-t7-2 array-copy-out-t10-2
-    array-copy-out-t16-2 array-copy-out-t13-2 odd-requires butterflies-requires returns)
+    array-copy-out-t16-2 array-copy-out-t13-2 odd-back-requires butterflies-requires returns)
