@@ -35,10 +35,19 @@ pub room-times : (n k : ℕ) {a : List ℤ} → Eight a → Within (bits n) a �
 room-times n k e p = within-le (one-bit n) (within-cosine (pos k) e p)
 
 -- fewer bits than there is room for
-pub wide : (n : ℕ) {a : List ℤ} → Within (bits n) a → Within (bits (suc n)) a
+wide : (n : ℕ) {a : List ℤ} → Within (bits n) a → Within (bits (suc n)) a
 wide n p = within-le (omega (arith, one-bit n)) p
 
--- c_j × a ± c_k × b, for elements a and b of a row
+-- what a sum or a difference of products asks of the elements a and b of a row
+pub pair : {d : List Element} {j k : ℕ} → Room 4 28 d → (i n : ℕ) → T ((ltb i 4 && ltb n 4) && (ltb j 8 && ltb k 8))
+    → Within (bits 29) (entry d i) × (Within (bits 29) (entry d n) × ((j < 8) × (k < 8)))
+pair {j = j} {k = k} room i n t =
+    let (places, cosines) = and-yes (ltb i 4 && ltb n 4) (ltb j 8 && ltb k 8) t in
+    let (h, l) = and-yes (ltb i 4) (ltb n 4) places in
+    let (u, v) = and-yes (ltb j 8) (ltb k 8) cosines in
+    (wide 28 (room .within i (ltb→lt i 4 h)), (wide 28 (room .within n (ltb→lt n 4 l)), (ltb→lt j 8 u, ltb→lt k 8 v)))
+
+-- c_j × a ± c_k × b
 module _ {d : List Element} (room : Room 4 28 d) (i j n k : ℕ) (t : T (ltb i 4 && ltb n 4)) where
   product : (i j : ℕ) → i < 4 → Within (bits 29) (mul (cosine (pos j)) (entry d i))
   product i j h = room-times 28 j (record { eight = room .eights i h }) (room .within i h)

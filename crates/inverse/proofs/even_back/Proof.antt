@@ -9,7 +9,7 @@ use Rattle.ring.specs.Element.{add, subtract, cosine, mul}
 use Rattle.dct.proofs.HalvesBack.{even-back-half}
 use Rattle.elements.specs.Buffer.{entry}
 use Rattle.elements.proofs.Bounds.{within-le}
-use Rattle.transform.proofs.Halves.{eights, room-add, room-subtract, room-sum, room-difference, row-4, wide}
+use Rattle.transform.proofs.Halves.{eights, room-add, room-subtract, pair, room-sum, room-difference, row-4}
 use Rattle.inverse.proofs.Rows.{room-p0, room-p1}
 use Rattle.inverse.proofs.even_back.Statement.{statement}
 use Rattle.inverse.proofs.even_back.Tie as tie
@@ -47,14 +47,10 @@ times-requires-2 c κs =
     (rw (c .subtract .ensures) (within-le (omega arith) (room-subtract 28 (room .within 0 (lit< tt)) (room .within 2 (lit< tt)))), lit< tt)
 
 sum-of-products-requires : tie.Need-sum-of-products-requires
-sum-of-products-requires c κs =
-    let room = c .before .before .before .before .before .before .before .before .pre in
-    (wide 28 (room .within 1 (lit< tt)), (wide 28 (room .within 3 (lit< tt)), (lit< tt, lit< tt)))
+sum-of-products-requires c κs = pair (c .before .before .before .before .before .before .before .before .pre) 1 3 tt
 
 difference-of-products-requires : tie.Need-difference-of-products-requires
-difference-of-products-requires c κs =
-    let room = c .before .before .before .before .before .before .before .before .before .pre in
-    (wide 28 (room .within 1 (lit< tt)), (wide 28 (room .within 3 (lit< tt)), (lit< tt, lit< tt)))
+difference-of-products-requires c κs = pair (c .before .before .before .before .before .before .before .before .before .pre) 1 3 tt
 
 add-requires-2 : tie.Need-add-requires-2
 add-requires-2 c κs =

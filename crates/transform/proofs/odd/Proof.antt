@@ -6,7 +6,7 @@ use borrow.Author.Needs.{needs}
 use Rattle.ring.specs.Element.{add, subtract}
 use Rattle.dct.proofs.Halves.{odd-half}
 use Rattle.elements.specs.Buffer.{entry}
-use Rattle.transform.proofs.Halves.{eights, wide, room-sum, room-difference, row-4}
+use Rattle.transform.proofs.Halves.{eights, pair, room-sum, room-difference, row-4}
 use Rattle.transform.proofs.odd.Statement.{statement}
 use Rattle.transform.proofs.odd.Tie as tie
 
@@ -23,14 +23,10 @@ array-copy-out-d3 : tie.Need-array-copy-out-d3
 array-copy-out-d3 c = search needs
 
 sum-of-products-requires : tie.Need-sum-of-products-requires
-sum-of-products-requires c κs =
-    let room = c .before .before .before .before .pre in
-    (wide 28 (room .within 0 (lit< tt)), (wide 28 (room .within 1 (lit< tt)), (lit< tt, lit< tt)))
+sum-of-products-requires c κs = pair (c .before .before .before .before .pre) 0 1 tt
 
 sum-of-products-requires-2 : tie.Need-sum-of-products-requires-2
-sum-of-products-requires-2 c κs =
-    let room = c .before .before .before .before .before .pre in
-    (wide 28 (room .within 2 (lit< tt)), (wide 28 (room .within 3 (lit< tt)), (lit< tt, lit< tt)))
+sum-of-products-requires-2 c κs = pair (c .before .before .before .before .before .pre) 2 3 tt
 
 add-requires : tie.Need-add-requires
 add-requires c κs =
@@ -40,14 +36,10 @@ add-requires c κs =
     )
 
 difference-of-products-requires : tie.Need-difference-of-products-requires
-difference-of-products-requires c κs =
-    let room = c .before .before .before .before .before .before .before .pre in
-    (wide 28 (room .within 0 (lit< tt)), (wide 28 (room .within 1 (lit< tt)), (lit< tt, lit< tt)))
+difference-of-products-requires c κs = pair (c .before .before .before .before .before .before .before .pre) 0 1 tt
 
 sum-of-products-requires-3 : tie.Need-sum-of-products-requires-3
-sum-of-products-requires-3 c κs =
-    let room = c .before .before .before .before .before .before .before .before .pre in
-    (wide 28 (room .within 2 (lit< tt)), (wide 28 (room .within 3 (lit< tt)), (lit< tt, lit< tt)))
+sum-of-products-requires-3 c κs = pair (c .before .before .before .before .before .before .before .before .pre) 2 3 tt
 
 subtract-requires : tie.Need-subtract-requires
 subtract-requires c κs =
@@ -57,14 +49,10 @@ subtract-requires c κs =
     )
 
 difference-of-products-requires-2 : tie.Need-difference-of-products-requires-2
-difference-of-products-requires-2 c κs =
-    let room = c .before .before .before .before .before .before .before .before .before .before .pre in
-    (wide 28 (room .within 0 (lit< tt)), (wide 28 (room .within 1 (lit< tt)), (lit< tt, lit< tt)))
+difference-of-products-requires-2 c κs = pair (c .before .before .before .before .before .before .before .before .before .before .pre) 0 1 tt
 
 sum-of-products-requires-4 : tie.Need-sum-of-products-requires-4
-sum-of-products-requires-4 c κs =
-    let room = c .before .before .before .before .before .before .before .before .before .before .before .pre in
-    (wide 28 (room .within 2 (lit< tt)), (wide 28 (room .within 3 (lit< tt)), (lit< tt, lit< tt)))
+sum-of-products-requires-4 c κs = pair (c .before .before .before .before .before .before .before .before .before .before .before .pre) 2 3 tt
 
 add-requires-2 : tie.Need-add-requires-2
 add-requires-2 c κs =
@@ -74,14 +62,10 @@ add-requires-2 c κs =
     )
 
 difference-of-products-requires-3 : tie.Need-difference-of-products-requires-3
-difference-of-products-requires-3 c κs =
-    let room = c .before .before .before .before .before .before .before .before .before .before .before .before .before .pre in
-    (wide 28 (room .within 0 (lit< tt)), (wide 28 (room .within 1 (lit< tt)), (lit< tt, lit< tt)))
+difference-of-products-requires-3 c κs = pair (c .before .before .before .before .before .before .before .before .before .before .before .before .before .pre) 0 1 tt
 
 difference-of-products-requires-4 : tie.Need-difference-of-products-requires-4
-difference-of-products-requires-4 c κs =
-    let room = c .before .before .before .before .before .before .before .before .before .before .before .before .before .before .pre in
-    (wide 28 (room .within 2 (lit< tt)), (wide 28 (room .within 3 (lit< tt)), (lit< tt, lit< tt)))
+difference-of-products-requires-4 c κs = pair (c .before .before .before .before .before .before .before .before .before .before .before .before .before .before .pre) 2 3 tt
 
 add-requires-3 : tie.Need-add-requires-3
 add-requires-3 c κs =
@@ -96,12 +80,12 @@ returns c =
     let c3 = c5 .before .before .before in
     let c1 = c3 .before .before .before in
     let start = c1 .before .before .before .before .before .before .before in
-    let x = entry (start .args .t1) in
+    let half = odd-half (entry (start .args .t1)) (eights (start .pre)) in
     row-4
-    (c1 .add .ensures ∙ ap₂ add (c1 .before .before .sum-of-products .ensures) (c1 .before .sum-of-products2 .ensures) ∙ odd-half x (eights (start .pre)) 0 (lit< tt))
-    (c3 .subtract .ensures ∙ ap₂ subtract (c3 .before .before .difference-of-products .ensures) (c3 .before .sum-of-products3 .ensures) ∙ odd-half x (eights (start .pre)) 1 (lit< tt))
-    (c5 .add2 .ensures ∙ ap₂ add (c5 .before .before .difference-of-products2 .ensures) (c5 .before .sum-of-products4 .ensures) ∙ odd-half x (eights (start .pre)) 2 (lit< tt))
-    (c .add3 .ensures ∙ ap₂ add (c .before .before .difference-of-products3 .ensures) (c .before .difference-of-products4 .ensures) ∙ odd-half x (eights (start .pre)) 3 (lit< tt))
+    (c1 .add .ensures ∙ ap₂ add (c1 .before .before .sum-of-products .ensures) (c1 .before .sum-of-products2 .ensures) ∙ half 0 (lit< tt))
+    (c3 .subtract .ensures ∙ ap₂ subtract (c3 .before .before .difference-of-products .ensures) (c3 .before .sum-of-products3 .ensures) ∙ half 1 (lit< tt))
+    (c5 .add2 .ensures ∙ ap₂ add (c5 .before .before .difference-of-products2 .ensures) (c5 .before .sum-of-products4 .ensures) ∙ half 2 (lit< tt))
+    (c .add3 .ensures ∙ ap₂ add (c .before .before .difference-of-products3 .ensures) (c .before .difference-of-products4 .ensures) ∙ half 3 (lit< tt))
 
 pub odd-spec : {M : Type 1} → statement M
 odd-spec =
