@@ -5,16 +5,19 @@ use mathlib.Core.Bool.{Bool, true, false, cond}
 use Prim.Native.Nat.{ℕ, suc, _<_}
 use native.Mathlib.Nat.{le-refl, lt-of-lt-of-le}
 use native.Mathlib.Omega.{arith}
-use lib.Dec.{T, ltb, eqb}
-use borrow.Author.Tests.{ne-eqb, le-ltb, ltb-false}
+use lib.Dec.{T, ltb, eqb, eqb→eq}
+use borrow.Author.Tests.{ne-eqb, le-ltb, ltb-true, ltb-false}
 use Rattle.integers.specs.Search.{first}
 use Rattle.integers.proofs.Search.{Passed, first-none, before-first, at-first}
-use Rattle.answers.specs.Answer.{Returned, unless, lowest, accepted, written}
+use Rattle.answers.specs.Answer.{Returned, unless-at, unless, lowest, lowest-cause, accepted, written}
 
 -- no cause: the next one is asked
 
+pub unless-at-passes : (p : ℕ) (t : Bool) (n : ℕ) (next : Returned) → T t → unless-at p t n next ≡ next
+unless-at-passes p true n next h = refl
+
 pub unless-passes : (t : Bool) (n : ℕ) (next : Returned) → T t → unless t n next ≡ next
-unless-passes true n next h = refl
+unless-passes = unless-at-passes 0
 
 pub lowest-passes : (size : ℕ) (faulty : ℕ → Bool) (n : ℕ) (next : Returned) → ((i : ℕ) → i < size → faulty i ≡ false) → lowest size faulty n next ≡ next
 lowest-passes size faulty n next h = rw (first-none size faulty (record { room = le-refl size; fails = h }), le-ltb size size (le-refl size))
@@ -24,9 +27,12 @@ lowest-passes size faulty n next h = rw (first-none size faulty (record { room =
 not-zero : (n : ℕ) → eqb (suc n) 0 ≡ false
 not-zero n = ne-eqb (suc n) 0 (λ e. omega arith)
 
+pub unless-at-accepted : (p : ℕ) (t : Bool) (n : ℕ) (next : Returned) → T (accepted (unless-at p t (suc n) next)) → T t × T (accepted next)
+unless-at-accepted p true n next h = (tt, h)
+unless-at-accepted p false n next h = absurd (rw (not-zero n) at h)
+
 pub unless-accepted : (t : Bool) (n : ℕ) (next : Returned) → T (accepted (unless t (suc n) next)) → T t × T (accepted next)
-unless-accepted true n next h = (tt, h)
-unless-accepted false n next h = absurd (rw (not-zero n) at h)
+unless-accepted = unless-at-accepted 0
 
 pub lowest-accepted : (size : ℕ) (faulty : ℕ → Bool) (n : ℕ) (next : Returned) → T (accepted (lowest size faulty (suc n) next))
     → ((i : ℕ) → i < size → faulty i ≡ false) × T (accepted next)
@@ -36,6 +42,33 @@ lowest-accepted size faulty n next h = go (ltb (first size faulty) size) refl h
         → ((i : ℕ) → i < size → faulty i ≡ false) × T (accepted next)
     go true e h = absurd (rw (not-zero n) at h)
     go false e h = ((λ i l. before-first size faulty i (lt-of-lt-of-le l (ltb-false (first size faulty) size e))), h)
+
+-- the same of a cause at each index
+
+pub cause-passes : (size : ℕ) (cause : ℕ → ℕ) (next : Returned) → ((i : ℕ) → i < size → cause i ≡ 0) → lowest-cause size cause next ≡ next
+cause-passes size cause next h =
+    lowest-passes size (λ i. ltb 0 (cause i)) (cause (first size (λ i. ltb 0 (cause i)))) next (λ i l. rw (h i l))
+
+pub cause-accepted : (size : ℕ) (cause : ℕ → ℕ) (next : Returned) → T (accepted (lowest-cause size cause next))
+    → ((i : ℕ) → i < size → cause i ≡ 0) × T (accepted next)
+cause-accepted size cause next h = go (ltb at size) refl h
+  where
+    at : ℕ
+    at = first size (λ i. ltb 0 (cause i))
+
+    go : (t : Bool) → ltb at size ≡ t → T (accepted (cond t (record { number = cause at; place = at }) next))
+        → ((i : ℕ) → i < size → cause i ≡ 0) × T (accepted next)
+    go true e h =
+        let above : 0 < cause at = ltb-true 0 (cause at) (at-first size (λ i. ltb 0 (cause i)) (ltb-true at size e)) in
+        let none : cause at ≡ 0 = eqb→eq (cause at) 0 h in
+        absurd (omega arith)
+    go false e h = (
+      (λ i l.
+          let none = before-first size (λ i. ltb 0 (cause i)) i (lt-of-lt-of-le l (ltb-false at size e)) in
+          let small = ltb-false 0 (cause i) none in
+          omega arith),
+      h,
+    )
 
 -- a refusal has its cause: the place that `lowest` names is faulty, and none below it is
 

@@ -15,6 +15,16 @@ pub enum Answer {
     Magnitudes(usize),
     // No block in range has these elements.
     NoBlock,
+    // The call did its work, and wrote this many words.
+    Words(usize),
+    // A sheet does not begin with a head whose sizes are allowed.
+    Head,
+    // A sheet has this many words, and not as many as its sizes ask for.
+    Count(usize),
+    // The word at this index is of another kind than its place needs.
+    Kind(usize),
+    // The end word, at this index, does not hold the number of blocks.
+    End(usize),
 }
 
 // 01's number of an answer.
@@ -28,6 +38,11 @@ pub fn number(a: Answer) -> u32
         Answer::Width => 3,
         Answer::Magnitudes(_) => 4,
         Answer::NoBlock => 5,
+        Answer::Words(_) => 0,
+        Answer::Head => 6,
+        Answer::Count(_) => 7,
+        Answer::Kind(_) => 7,
+        Answer::End(_) => 8,
     }
 }
 
@@ -42,5 +57,10 @@ pub fn place(a: Answer) -> usize
         Answer::Width => 0,
         Answer::Magnitudes(p) => p,
         Answer::NoBlock => 0,
+        Answer::Words(n) => n,
+        Answer::Head => 0,
+        Answer::Count(n) => n,
+        Answer::Kind(i) => i,
+        Answer::End(i) => i,
     }
 }

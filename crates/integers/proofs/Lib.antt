@@ -6,4 +6,5 @@ pub mod Signed
 pub mod Sums
 pub mod Search
 pub mod Tables
+pub mod Overwriting
 pub mod Tests

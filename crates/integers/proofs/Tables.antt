@@ -1,7 +1,7 @@
 -- Lists given by a rule, and the invariant of a loop that fills a buffer from the front.
 -- Assumes nothing.
-use mathlib.Core.Path.{_≡_, refl, sym, ap, _∙_}
-use mathlib.Core.List.{List}
+use mathlib.Core.Path.{_≡_, refl, sym, ap, ap₂, _∙_}
+use mathlib.Core.List.{List, _∷_}
 use Prim.Native.Nat.{ℕ, zero, suc, _+_, _≤_, _<_, zero-le}
 use native.Mathlib.Omega.{arith}
 use native.Mathlib.Nat.{le-of-suc-le-suc, not-suc-le-zero}
@@ -24,6 +24,11 @@ module _ {A : Type 0} where
   pub is-table : (d : A) (l : List A) (n : ℕ) (f : ℕ → A) → length l ≡ n → ((k : ℕ) → k < n → getD l k d ≡ f k) → l ≡ table n f
   is-table d l n f e h =
       ext-getD d l (table n f) (e ∙ sym (length-table n f)) (λ i b. let k : i < n = rw e at b in h i k ∙ sym (getD-table n f d i k))
+
+  -- two rules that agree below n have the same table
+  pub table-ext : (n : ℕ) (f g : ℕ → A) → ((k : ℕ) → k < n → f k ≡ g k) → table n f ≡ table n g
+  table-ext zero f g h = refl
+  table-ext (suc n) f g h = ap₂ _∷_ (h zero (omega arith)) (table-ext n (λ k. f (suc k)) (λ k. g (suc k)) (λ k b. h (suc k) (omega arith)))
 
 -- a loop that fills a buffer from the front
 

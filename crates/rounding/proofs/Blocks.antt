@@ -1,25 +1,29 @@
 -- Which calls rounding accepts: those with an accepted set, a buffer of 64 coefficients and one of the three widths. A block's set, the
 -- elements that forward writes for a block in range, is one.
 -- Assumes nothing.
-use mathlib.Core.Path.{_≡_}
+use mathlib.Core.Path.{_≡_, refl}
 use mathlib.Core.Bool.{_&&_}
 use mathlib.Core.List.{List}
-use Prim.Native.Nat.{ℕ}
+use Prim.Native.Nat.{ℕ, _+_, _≤_, _<_}
 use lib.Dec.{T, eqb, eqb→eq}
-use lib.IntN.{ℤ}
-use lib.ListN.{length}
+use lib.IntN.{ℤ, pos, natAbs}
+use lib.ListN.{length, getD}
 use mir.Facts.{and-yes}
 use borrow.Author.Tests.{eq-eqb}
-use Rattle.dct.specs.Limits.{places, components-size}
+use Rattle.integers.proofs.Tables.{getD-table}
+use Rattle.dct.specs.Limits.{places, components-size, magnitudes-limit}
+use Rattle.cuts.specs.Width.{coefficient}
+use Rattle.elements.specs.Buffer.{element-at}
 use Rattle.answers.specs.Answer.{unless, lowest, accept, accepted}
 use Rattle.answers.proofs.Accepted.{unless-passes, lowest-passes, unless-accepted, lowest-accepted}
 use Rattle.transform.specs.Forward.{AllInRange, elements-of, forward-returned, forward-elements}
-use Rattle.accepted_sets.specs.Sets.{above-limit}
+use Rattle.accepted_sets.specs.Sets.{AcceptedSet, above-limit}
 use Rattle.accepted_sets.proofs.Limit.{none-above, passed}
 use Rattle.accepted_sets.proofs.BlockSets.{block-set, forward-set}
 use Rattle.rounding.specs.Preconditions.{Ready}
-use Rattle.rounding.specs.Rounding.{round-returned}
-use Rattle.rounding.specs.Tables.{width}
+use Rattle.rounding.specs.Rounding.{coefficients-of, round-returned}
+use Rattle.rounding.specs.Tables.{width, numbers}
+use Rattle.rounding.proofs.Sizes.{sized, coefficient-small}
 
 pub accepts : {e : List ℤ} {b : ℕ} {c : List ℤ} → Ready e b c → round-returned e b c ≡ accept
 unfolding round-returned
@@ -41,6 +45,13 @@ accepted-ready e b c h =
     let (w, last) = unless-accepted (width b) 2 (lowest places (above-limit e) 4 accept) rest in
     let (none, done) = lowest-accepted places (above-limit e) 3 accept last in
     record { ready-set = passed (eqb→eq (length e) components-size s) none; coefficients-length = eqb→eq (length c) places t; ready-width = w }
+
+-- how large a coefficient gets
+pub coefficient-size : {e : List ℤ} (b : ℕ) → AcceptedSet e → T (width b) → (p : ℕ) → p < places
+    → natAbs (getD (coefficients-of b e) p (pos 0)) ≤ magnitudes-limit + 1
+coefficient-size {e} b S w p h =
+    rw (getD-table places (λ p. coefficient b (numbers b) (element-at e p)) (pos 0) p h)
+    (coefficient-small (sized (record { at-width = w; are-numbers = refl; in-limit = S .in-limit p h })))
 
 -- blocks' sets
 

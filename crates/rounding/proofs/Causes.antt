@@ -9,25 +9,28 @@ use lib.IntN.{ℤ, pos}
 use lib.ListN.{length}
 use borrow.Author.Tests.{lt-ltb, le-ltb, eq-eqb, ne-eqb, not-true, not-false}
 use Rattle.integers.specs.Search.{first}
-use Rattle.integers.specs.Table.{table}
 use Rattle.integers.proofs.Tables.{getD-table}
 use Rattle.dct.specs.Limits.{places, components-size, distance-numerator}
 use Rattle.cuts.specs.Width.{coefficient}
 use Rattle.cuts.proofs.Error.{near}
 use Rattle.elements.specs.Buffer.{element-at}
 use Rattle.answers.specs.Answer.{Returned, lowest, accept, accepted}
-use Rattle.accepted_sets.specs.Sets.{above-limit}
+use Rattle.accepted_sets.specs.Sets.{AcceptedSet, above-limit}
 use Rattle.accepted_sets.proofs.Limit.{searched}
 use Rattle.rounding.specs.Preconditions.{Ready}
-use Rattle.rounding.specs.Rounding.{AllNear, round-returned, round-coefficients}
+use Rattle.rounding.specs.Rounding.{AllNear, coefficients-of, round-returned, round-coefficients}
 use Rattle.rounding.specs.Tables.{width, numbers}
 use Rattle.rounding.proofs.Tables.{tables}
 
-module _ (elements : List ℤ) (b : ℕ) (coefficients : List ℤ) where
-  -- the 64 numbers of the formula
-  abbrev formula : List ℤ
-  formula = table places (λ p. coefficient b (numbers b) (element-at elements p))
+-- the formula's numbers are as near as demand 3 asks
+pub all-near : (elements : List ℤ) (b : ℕ) → AcceptedSet elements → T (width b) → AllNear elements b (coefficients-of b elements)
+all-near elements b S w =
+    record {
+      near = λ i h. rw (getD-table places (λ p. coefficient b (numbers b) (element-at elements p)) (pos 0) i h)
+          (near b distance-numerator (numbers b) (element-at elements i) (tables b w) (S .in-limit i h));
+    }
 
+module _ (elements : List ℤ) (b : ℕ) (coefficients : List ℤ) where
   -- what `round` promises of the answer r and of the coefficients that it leaves
   abbrev Promised : Returned → List ℤ → Type 0
   Promised r left =
@@ -69,15 +72,9 @@ module _ (elements : List ℤ) (b : ℕ) (coefficients : List ℤ) where
         pub ready : Ready elements b coefficients
         ready = record { ready-set = searched l f none; coefficients-length = k; ready-width = rw (← e, not-false r t) tt }
 
-        all-near : AllNear elements b formula
-        all-near = record {
-          near = λ i h. rw (getD-table places (λ p. coefficient b (numbers b) (element-at elements p)) (pos 0) i h)
-              (near b distance-numerator (numbers b) (element-at elements i) (tables b (ready .ready-width)) (ready .ready-set .in-limit i h));
-        }
-
         answer : round-returned elements b coefficients ≡ accept
         answer = past-width ∙ rw (← f, le-ltb p places none)
 
-        pub accepted-call : {left : List ℤ} → left ≡ formula → Promised accept left
+        pub accepted-call : {left : List ℤ} → left ≡ coefficients-of b elements → Promised accept left
         unfolding round-coefficients
-        accepted-call g = (sym answer, (rw answer g, λ h. rw g all-near))
+        accepted-call g = (sym answer, (rw answer g, λ h. rw g (all-near elements b (ready .ready-set) (ready .ready-width))))

@@ -3,16 +3,16 @@
 use mathlib.Core.Path.{_≡_, refl, sym}
 use mathlib.Core.List.{List}
 use Prim.Native.Nat.{ℕ, zero, suc, _+_, _*_, _^_, _≤_, _<_}
-use native.Mathlib.Nat.{zero-add, le-refl, le-trans, lt-of-le-of-lt, mul-add, mul-le-mul, mul-le-mul-left, mul-le-mul-right, div-le-of-le-mul}
+use native.Mathlib.Nat.{zero-add, le-refl, le-trans, lt-of-le-of-lt, mul-add, mul-le-mul, mul-le-mul-left, mul-le-mul-right}
 use native.Mathlib.Omega.{arith}
 use lib.Dec.{lit<}
-use lib.IntN.{ℤ, pos, negsuc, _+ℤ_, _*ℤ_, natAbs, +ℤ-assoc, +ℤ-idr}
-use lib.Pow.{pow-mono}
-use lib.Signed.{mag, shrZ}
+use lib.IntN.{ℤ, pos, _+ℤ_, _*ℤ_, natAbs, +ℤ-assoc, +ℤ-idr}
+use lib.Pow.{pow-mono, pow-pos}
 use mir.Syntax.{w32}
 use mir.Val.{SFits}
 use Rattle.integers.specs.Sum.{sum}
-use Rattle.integers.proofs.Magnitudes.{natAbs-add, natAbs-mul}
+use Rattle.integers.proofs.Division.{shrZ-small}
+use Rattle.integers.proofs.Magnitudes.{natAbs-add, natAbs-mul, small-fits}
 use Rattle.ring.specs.Element.{component, magnitudes}
 use Rattle.ring.proofs.Magnitude.{sizes, sizes-le, component-le}
 use Rattle.dct.specs.Limits.{magnitudes-limit}
@@ -62,11 +62,6 @@ sized {b} A =
 product-le : (x y : ℤ) {P : ℕ} → natAbs x ≤ P → natAbs (x *ℤ y) ≤ P * natAbs y
 product-le x y h = rw (natAbs-mul x y) (mul-le-mul-right (natAbs y) h)
 
--- a number that is at most P·n in magnitude, divided by P
-mag-shr-le : (z : ℤ) (P : ℕ) {n : ℕ} → natAbs z ≤ P * n → mag (shrZ z P) ≤ n
-mag-shr-le (pos a) P h = div-le-of-le-mul P h
-mag-shr-le (negsuc a) P h = div-le-of-le-mul P (omega arith)
-
 module _ {b : ℕ} {m u : List ℤ} (B : Sized b m u) where
   power-le : 2 ^ (b + 1) ≤ 2 ^ 27
   power-le = let h : b + 1 ≤ 27 = omega (arith, B .width-bound) in pow-mono h
@@ -111,7 +106,9 @@ module _ {b : ℕ} {m u : List ℤ} (B : Sized b m u) where
   pub rounded-small : natAbs (numerator b m u +ℤ pos (2 ^ b)) ≤ 2 ^ 27 * (magnitudes-limit + 1)
   rounded-small = le-trans rounded-le (mul-le-mul-right (magnitudes-limit + 1) power-le)
 
-  pub coefficient-fits : SFits w32 (coefficient b m u)
+  pub coefficient-small : natAbs (coefficient b m u) ≤ magnitudes-limit + 1
   unfolding coefficient
-  coefficient-fits =
-      record { sfits = lt-of-le-of-lt (mag-shr-le (numerator b m u +ℤ pos (2 ^ b)) (2 ^ (b + 1)) rounded-le) (lit< tt) }
+  coefficient-small = shrZ-small (2 ^ (b + 1)) (magnitudes-limit + 1) (numerator b m u +ℤ pos (2 ^ b)) (pow-pos (b + 1)) rounded-le
+
+  pub coefficient-fits : SFits w32 (coefficient b m u)
+  coefficient-fits = small-fits w32 (coefficient b m u) (lt-of-le-of-lt coefficient-small (lit< tt))

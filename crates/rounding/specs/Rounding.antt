@@ -21,10 +21,13 @@ round-returned elements b coefficients =
     (unless (width b) 3
     (lowest places (above-limit elements) 4 accept))
 
--- the coefficients after the call: "the coefficient at index 8u+v is made from the element at (u,v)"
+-- the coefficients of 64 elements: "the coefficient at index 8u+v is made from the element at (u,v)"
+abbrev pub coefficients-of : ℕ → List ℤ → List ℤ
+coefficients-of b elements = table places (λ p. coefficient b (numbers b) (element-at elements p))
+
+-- the coefficients after the call
 unfoldable pub round-coefficients : List ℤ → ℕ → List ℤ → List ℤ
-round-coefficients elements b coefficients =
-    written (round-returned elements b coefficients) (table places (λ p. coefficient b (numbers b) (element-at elements p))) coefficients
+round-coefficients elements b coefficients = written (round-returned elements b coefficients) (coefficients-of b elements) coefficients
 
 -- each of the 64 coefficients lies within 1/2 + 65,536/2^b of half of its element's value
 pub record AllNear (elements : List ℤ) (b : ℕ) (coefficients : List ℤ) : Type 0 where

@@ -12,13 +12,10 @@ ghost use lib.Dec.{T};
 ghost use lib.IntN.{pos, _+ℤ_, _*ℤ_};
 ghost use mir.Syntax.{w64};
 ghost use mir.Val.{SFits};
-ghost use Rattle.integers.specs.Table.{table};
-ghost use Rattle.dct.specs.Limits.{places};
 ghost use Rattle.cuts.specs.Width as cuts;
-ghost use Rattle.elements.specs.Buffer.{element-at};
 ghost use Rattle.answers.specs.Answer.{returned, accepted};
 ghost use Rattle.rounding.specs.Preconditions.{Allowed, Ready};
-ghost use Rattle.rounding.specs.Rounding.{AllNear, round-returned, round-coefficients};
+ghost use Rattle.rounding.specs.Rounding.{AllNear, coefficients-of, round-coefficients, round-returned};
 ghost use Rattle.rounding.specs.Tables as tables;
 use accepted_sets::first_above_limit;
 use answers::Answer;
@@ -57,7 +54,7 @@ fn numbers_at(b: u32) -> [i64; 7]
 }
 
 // b is one of the widths.
-fn is_width(b: u32) -> bool
+pub fn is_width(b: u32) -> bool
     ensures { λ r. ⌜ r ≡ tables.width b ⌝ }
 {
     if b == 11 {
@@ -116,7 +113,7 @@ fn coefficient(u: Element, b: u32, numbers: [i64; 7]) -> i32
 // Every coefficient of an accepted set.
 fn fill(elements: &[i32], b: u32, coefficients: &mut [i32])
     requires { ⌜ Ready (now elements) b (now coefficients) ⌝ }
-    ensures { λ r. ⌜ now (coefficients .exit) ≡ table places (λ p. cuts.coefficient b (tables.numbers b) (element-at (now (elements .entry)) p)) ⌝ }
+    ensures { λ r. ⌜ now (coefficients .exit) ≡ coefficients-of b (now (elements .entry)) ⌝ }
 {
     let numbers = numbers_at(b);
     let mut i = 0;

@@ -34,9 +34,9 @@ use elements::subtract;
 use elements::times;
 
 // The range of samples.
-const LOWEST_SAMPLE: i32 = -2048;
+pub const LOWEST_SAMPLE: i32 = -2048;
 
-const HIGHEST_SAMPLE: i32 = 2047;
+pub const HIGHEST_SAMPLE: i32 = 2047;
 
 // c_j × a + c_k × b
 pub fn sum_of_products(a: Element, j: usize, b: Element, k: usize) -> Element

@@ -1,0 +1,3 @@
+-- The laws of the check.
+pub mod Heads
+pub mod Faults

@@ -1,0 +1,84 @@
+-- The check of a sheet (01, "Sheets" and "Why a set or sheet is turned back"), for any kinds of its head and its body and for any range of
+-- the values in its body.
+use mathlib.Core.Path.{_≡_}
+use mathlib.Core.Bool.{Bool, cond, _&&_, _||_}
+use mathlib.Core.List.{List}
+use Prim.Native.Nat.{ℕ, suc, _+_, _*_}
+use lib.Dec.{T, eqb, ltb, leb}
+use lib.IntN.{ℤ}
+use lib.ListN.{length, getD}
+use lib.Signed.{ltZ}
+use Rattle.dct.specs.Limits.{places}
+use Rattle.words.specs.Word.{kind, payload, value, across, down}
+use Rattle.answers.specs.Answer.{Returned, unless, unless-at, lowest-cause}
+use Rattle.sheet_checks.specs.declared.Format.{Format}
+
+-- the kind of an end word
+abbrev pub end-kind : ℕ
+end-kind = 15
+
+-- word i of a sheet
+abbrev pub word-at : List ℕ → ℕ → ℕ
+word-at words i = getD words i 0
+
+-- "Both sizes are at least 1 and their product at most 128"
+
+abbrev pub blocks-limit : ℕ
+blocks-limit = 128
+
+-- the blocks that a sheet's head announces
+abbrev pub blocks : List ℕ → ℕ
+blocks words = across (word-at words 0) * down (word-at words 0)
+
+abbrev pub sizes-allowed : ℕ → Bool
+sizes-allowed w = leb 1 (across w) && (leb 1 (down w) && leb (across w * down w) blocks-limit)
+
+-- "A sheet has 2 + 64 × blocks words"
+abbrev pub size-of : ℕ → ℕ
+size-of n = 2 + places * n
+
+-- no cause 6: there are words, the first is of the kind of heads, and its sizes are allowed
+unfoldable pub has-head : ℕ → List ℕ → Bool
+has-head k words = ltb 0 (length words) && (eqb (kind (word-at words 0)) k && sizes-allowed (word-at words 0))
+
+-- the blocks of a sheet that has a head of the kind k, and 0 of another
+abbrev pub allowed-blocks : ℕ → List ℕ → ℕ
+allowed-blocks k words = cond (has-head k words) (blocks words) 0
+
+-- the causes 6 and 7 of a sheet as a whole, in this order; a wrong count is named by the count given
+unfoldable pub shape : Format → List ℕ → Returned → Returned
+shape f words next =
+    unless (has-head (f .head) words) 6
+    (unless-at (length words) (eqb (length words) (size-of (blocks words))) 7 next)
+
+-- the cause of a word that has a fault, "kind before value", and 0 of one that has none
+
+-- a word of the body
+unfoldable pub body-cause : Format → ℕ → ℕ
+body-cause f w =
+    cond (eqb (kind w) (f .body))
+    (cond (ltZ (value (payload w)) (f .lowest) || ltZ (f .highest) (value (payload w))) (f .refusal) 0)
+    7
+
+-- the end word of n blocks
+unfoldable pub end-cause : ℕ → ℕ → ℕ
+end-cause n w = cond (eqb (kind w) end-kind) (cond (eqb (payload w) n) 0 8) 7
+
+-- word i: the head's causes are asked before, and the last word is the end word
+unfoldable pub cause-at : Format → List ℕ → ℕ → ℕ
+cause-at f words i =
+    cond (eqb i 0) 0
+    (cond (eqb (suc i) (length words)) (end-cause (blocks words) (word-at words i)) (body-cause f (word-at words i)))
+
+-- "then the first faulty word"
+unfoldable pub contents : Format → List ℕ → Returned → Returned
+contents f words next = lowest-cause (length words) (cause-at f words) next
+
+-- the numbers that can name a faulty word
+abbrev pub names-word : Format → ℕ → Bool
+names-word f cause = eqb cause 7 || (eqb cause 8 || eqb cause (f .refusal))
+
+-- what a search for the first faulty word answers: its cause, or 0 where there is none, and its index
+pub record Searched (f : Format) (words : List ℕ) (cause place : ℕ) : Type 0 where
+  pub is : (next : Returned) → contents f words next ≡ unless-at place (eqb cause 0) cause next
+  pub cause-known : T (eqb cause 0 || names-word f cause)

@@ -1,0 +1,107 @@
+// The check of a sheet (01, "Sheets"): does it begin with a head of the right kind whose sizes are allowed, and which of its other words is
+// the first that has a fault? The kinds and the range of values are parameters, so that sheets of samples and of coefficients have one check.
+ghost use mathlib.Core.Path.{_≡_};
+ghost use mathlib.Core.Bool.{_||_};
+ghost use Prim.Native.Nat.{_<_};
+ghost use lib.ListN.{length};
+ghost use lib.Signed.{ltZ};
+ghost use Rattle.sheet_checks.specs.Check as check;
+ghost use Rattle.sheet_checks.specs.Check.{Searched};
+use words::kind;
+use words::payload;
+use words::value;
+
+// What the words of a sheet have to be.
+pub struct Format {
+    // The kind of its head.
+    pub head: u32,
+    // The kind of the words of its body.
+    pub body: u32,
+    // The lowest and the highest value that these may hold, and 01's number where one holds another.
+    pub lowest: i32,
+    pub highest: i32,
+    pub refusal: u32,
+}
+
+// A faulty word: 01's number, and its index. The number is 0 where no word is faulty.
+pub struct Fault {
+    pub cause: u32,
+    pub place: usize,
+}
+
+const END_KIND: u32 = 15;
+
+const BLOCKS_LIMIT: u32 = 128;
+
+// The blocks of a sheet, or 0 where it does not begin with a head of this kind that has sizes that are allowed.
+pub fn blocks_of(head: u32, sheet: &[u32]) -> usize
+    ensures { λ r. ⌜ r ≡ check.allowed-blocks head (now (sheet .entry)) ⌝ }
+{
+    if sheet.len() == 0 {
+        return 0;
+    }
+    let w = sheet[0];
+    if kind(w) != head {
+        return 0;
+    }
+    let n = words::blocks(w);
+    if BLOCKS_LIMIT < n {
+        return 0;
+    }
+    n as usize
+}
+
+// Whether a value lies outside a range, of which both ends belong to it.
+fn outside(z: i32, lowest: i32, highest: i32) -> bool
+    ensures { λ r. ⌜ r ≡ (ltZ z lowest || ltZ highest z) ⌝ }
+{
+    if z < lowest {
+        return true;
+    }
+    highest < z
+}
+
+// The cause of a fault in a word of the body, kind before value, or 0.
+fn body_cause(f: Format, w: u32) -> u32
+    ensures { λ r. ⌜ r ≡ check.body-cause f w ⌝ }
+{
+    if kind(w) != f.body {
+        return 7;
+    }
+    if outside(value(w), f.lowest, f.highest) {
+        return f.refusal;
+    }
+    0
+}
+
+// The cause of a fault in the end word of n blocks, or 0.
+fn end_cause(n: usize, w: u32) -> u32
+    ensures { λ r. ⌜ r ≡ check.end-cause n w ⌝ }
+{
+    if kind(w) != END_KIND {
+        return 7;
+    }
+    if payload(w) as usize != n {
+        return 8;
+    }
+    0
+}
+
+// The first faulty word of a sheet of n blocks.
+pub fn first_fault(f: Format, n: usize, sheet: &[u32]) -> Fault
+    requires { ⌜ n ≡ check.blocks (now sheet) ⌝ }
+    requires { ⌜ 1 < length (now sheet) ⌝ }
+    ensures { λ r. ⌜ Searched f (now (sheet .entry)) (r .cause) (r .place) ⌝ }
+{
+    let last = sheet.len() - 1;
+    let mut i = 1;
+    while i < last {
+        let cause = body_cause(f, sheet[i]);
+        if cause != 0 {
+            return Fault { cause, place: i };
+        }
+        i += 1;
+    }
+    let cause = end_cause(n, sheet[last]);
+    Fault { cause, place: last }
+}

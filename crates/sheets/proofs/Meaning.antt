@@ -1,0 +1,116 @@
+-- What the definitions of the sheet job mean: which calls are accepted, and what an accepted one leaves, word by word.
+-- Assumes nothing.
+use mathlib.Core.Path.{_≡_, sym, ap, ap₂, _∙_}
+use mathlib.Core.List.{List}
+use Prim.Native.Nat.{ℕ, suc, _+_, _-_, _*_, _≤_, _<_}
+use native.Mathlib.Omega.{arith}
+use lib.Dec.{T}
+use lib.IntN.{ℤ, pos}
+use lib.ListN.{length, getD}
+use Rattle.integers.specs.Table.{table, over}
+use Rattle.integers.proofs.Overwriting.{getD-over, getD-beyond}
+use Rattle.integers.proofs.Tables.{getD-table, length-table, table-ext}
+use Rattle.dct.specs.Limits.{places}
+use Rattle.answers.specs.Answer.{accept-words, accepted}
+use Rattle.answers.proofs.Accepted.{accepted-written}
+use Rattle.transform.specs.Forward.{elements-of}
+use Rattle.accepted_sets.proofs.BlockSets.{block-set}
+use Rattle.rounding.specs.Rounding.{AllNear, coefficients-of}
+use Rattle.rounding.proofs.Causes.{all-near}
+use Rattle.words.specs.Word.{across, down, kind, payload, payload-of, value, word}
+use Rattle.words.proofs.Packing.{kind-word, payload-word, payload-below, payload-of-below, small-in-range, value-of-payload}
+use Rattle.sheet_checks.specs.Check.{word-at, blocks}
+use Rattle.sheets.specs.Preconditions.{Checked}
+use Rattle.sheets.specs.Sheet.{block, block-coefficients, coefficient-sheet, coefficient-word, output-word, sheet-output, sheet-returned, sheet-scratch}
+use Rattle.sheets.proofs.Causes.{accepted-checked, accepted-returns}
+use Rattle.sheets.proofs.Output.{output-head, output-body, output-end}
+use Rattle.sheets.proofs.Samples.{block-words, block-range, block-fit}
+
+-- an accepted call
+
+module _ (words : List ℕ) (b : ℕ) (scratch : List ℤ) (output : List ℕ) (a : T (accepted (sheet-returned words b (length scratch) (length output)))) where
+  checked : Checked words b (length scratch) (length output)
+  checked = accepted-checked words b (length scratch) (length output) a
+
+  -- "returns 0 and the words written", as many as the sheet has
+  pub returns-words : sheet-returned words b (length scratch) (length output) ≡ accept-words (length words)
+  returns-words = accepted-returns words b (length scratch) (length output) a
+
+  -- the scratch holds the last block's elements
+  pub last-elements : sheet-scratch words b scratch output ≡ elements-of (block words (blocks words - 1))
+  unfolding sheet-scratch
+  last-elements =
+      accepted-written (sheet-returned words b (length scratch) (length output)) (elements-of (block words (blocks words - 1))) scratch a
+
+  written-over : sheet-output words b scratch output ≡ over (coefficient-sheet b words) output
+  unfolding sheet-output
+  written-over = accepted-written (sheet-returned words b (length scratch) (length output)) (over (coefficient-sheet b words) output) output a
+
+  abbrev left-at : ℕ → ℕ
+  left-at = word-at (sheet-output words b scratch output)
+
+  word-left : (i : ℕ) → i < length words → left-at i ≡ output-word b words i
+  unfolding coefficient-sheet
+  word-left i h =
+      rw written-over
+      (getD-over (table (length words) (output-word b words)) output 0 i (rw (length-table (length words) (output-word b words)) h)
+      ∙ getD-table (length words) (output-word b words) 0 i h)
+
+  -- the head has kind 4 and the same sizes
+  pub head-left : (kind (left-at 0) ≡ 4) × (across (left-at 0) ≡ across (word-at words 0)) × (down (left-at 0) ≡ down (word-at words 0))
+  head-left =
+      let head = word-at words 0 in
+      let e : left-at 0 ≡ word 4 (payload head) = word-left 0 (omega (arith, checked .words-length)) ∙ output-head b words in
+      let p = payload-word 4 (payload head) (payload-below head) in
+      (rw e (kind-word 4 (payload head) (payload-below head)), rw (e, p), rw (e, p))
+
+  -- coefficient p of block k has kind 3, and its value is the rounding at b of that block's element p
+  pub coefficient-left : (k p : ℕ) → k < blocks words → p < places
+      → (kind (left-at (1 + places * k + p)) ≡ 3) × (value (payload (left-at (1 + places * k + p))) ≡ getD (block-coefficients b words k) p (pos 0))
+  coefficient-left k p h l =
+      let z = getD (block-coefficients b words k) p (pos 0) in
+      let range = small-in-range z (block-fit checked k h .small p l) in
+      let below = payload-of-below z range in
+      let room = block-words checked k h in
+      let e : left-at (1 + places * k + p) ≡ word 3 (payload-of z) = word-left (1 + places * k + p) (omega arith) ∙ output-body b words k p l room in
+      (rw e (kind-word 3 (payload-of z) below), rw (e, payload-word 3 (payload-of z) below) (value-of-payload z range))
+
+  -- and lies as near to half of the element as demand 3 asks
+  pub near-left : (k : ℕ) → k < blocks words → AllNear (elements-of (block words k)) b (block-coefficients b words k)
+  unfolding block-coefficients
+  near-left k h = all-near (elements-of (block words k)) b (block-set (block words k) (block-range checked k h)) (checked .at-width)
+
+  -- the same end word
+  pub end-left : left-at (length words - 1) ≡ word-at words (length words - 1)
+  end-left =
+      let size = checked .words-length in
+      let last = length words - 1 in
+      word-left last (omega arith) ∙ output-end b words last (omega (arith, checked .some-block)) (omega arith)
+
+  -- output beyond is untouched
+  pub beyond-left : (i : ℕ) → length words ≤ i → left-at i ≡ getD output i 0
+  unfolding coefficient-sheet
+  beyond-left i h = rw written-over (getD-beyond (table (length words) (output-word b words)) output 0 i (rw (length-table (length words) (output-word b words)) h))
+
+same-block : (v w : List ℕ) (k : ℕ) → ((i : ℕ) → i < places → word-at v (1 + places * k + i) ≡ word-at w (1 + places * k + i)) → block v k ≡ block w k
+unfolding block
+same-block v w k same =
+    table-ext places (λ i. value (payload (word-at v (1 + places * k + i)))) (λ i. value (payload (word-at w (1 + places * k + i))))
+    (λ i l. ap (λ x. value (payload x)) (same i l))
+
+-- "Two accepted sheets of the same sizes that agree in one block, at equal b, agree in that block's 64 output words"
+pub block-independence : (b : ℕ) (v w : List ℕ) (s t : List ℤ) (o q : List ℕ)
+    → T (accepted (sheet-returned v b (length s) (length o))) → T (accepted (sheet-returned w b (length t) (length q)))
+    → across (word-at v 0) ≡ across (word-at w 0) → down (word-at v 0) ≡ down (word-at w 0)
+    → (k : ℕ) → k < blocks v → ((i : ℕ) → i < places → word-at v (1 + places * k + i) ≡ word-at w (1 + places * k + i))
+    → (i : ℕ) → i < places → word-at (sheet-output v b s o) (1 + places * k + i) ≡ word-at (sheet-output w b t q) (1 + places * k + i)
+unfolding block-coefficients
+block-independence b v w s t o q a c e f k h same i l =
+    let checked-v = accepted-checked v b (length s) (length o) a in
+    let checked-w = accepted-checked w b (length t) (length q) c in
+    let sizes : blocks v ≡ blocks w = ap₂ _*_ e f in
+    let room-v = block-words checked-v k h in
+    let room-w = block-words checked-w k (rw sizes at h) in
+    word-left v b s o a (1 + places * k + i) (omega arith) ∙ output-body b v k i l room-v
+    ∙ ap (λ x. coefficient-word (coefficients-of b (elements-of x)) i) (same-block v w k same)
+    ∙ sym (word-left w b t q c (1 + places * k + i) (omega arith) ∙ output-body b w k i l room-w)

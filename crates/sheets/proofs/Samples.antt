@@ -1,0 +1,84 @@
+-- The samples of a sheet that was checked are in range, and the coefficients of its blocks are such as words can hold.
+-- Assumes nothing.
+use mathlib.Core.Path.{_≡_, refl, sym, ap, _∙_, subst}
+use mathlib.Core.Bool.{Bool, true, false, cond, not, _||_}
+use mathlib.Core.List.{List}
+use Prim.Native.Nat.{ℕ, suc, _+_, _*_, _^_, _≤_, _<_}
+use native.Mathlib.Nat.{lt-of-le-of-lt}
+use native.Mathlib.Omega.{arith}
+use lib.Dec.{T, eqb, lit<}
+use lib.IntN.{ℤ, pos, negsuc}
+use lib.ListN.{length}
+use lib.Signed.{ltZ}
+use borrow.Author.Tests.{eq-eqb, eqb-true, not-false}
+use Rattle.integers.proofs.Tables.{getD-table, length-table}
+use Rattle.dct.specs.Limits.{places, components-size, in-range}
+use Rattle.transform.specs.Forward.{AllInRange, elements-of, forward-elements}
+use Rattle.transform.proofs.Range.{too-low, not-too-low}
+use Rattle.transform.proofs.Refusals.{accepts, accepted-leaves}
+use Rattle.accepted_sets.proofs.BlockSets.{block-set}
+use Rattle.rounding.specs.Rounding.{round-coefficients}
+use Rattle.rounding.specs.Tables.{width}
+use Rattle.rounding.proofs.Blocks.{coefficient-size, block-accepted}
+use Rattle.words.specs.Word.{kind, payload, value}
+use Rattle.sheet_checks.specs.Check.{word-at, blocks, size-of, body-cause}
+use Rattle.sheets.specs.Preconditions.{Checked, Fit}
+use Rattle.sheets.specs.Sheet.{sample-sheet, block, block-coefficients}
+
+-- a sample word without a fault is of kind 2 and holds a sample in range
+
+pub no-cause : (w : ℕ) → body-cause sample-sheet w ≡ 0 → (kind w ≡ 2) × (in-range (value (payload w)) ≡ true)
+unfolding body-cause
+no-cause w e = go (eqb (kind w) 2) (ltZ v (negsuc 2047)) (ltZ (pos 2047) v) refl refl refl e
+  where
+    v : ℤ
+    v = value (payload w)
+    go : (k low high : Bool) → eqb (kind w) 2 ≡ k → ltZ v (negsuc 2047) ≡ low → ltZ (pos 2047) v ≡ high
+        → _≡_ {A = ℕ} (cond k (cond (low || high) 2 0) 7) 0 → (kind w ≡ 2) × (in-range v ≡ true)
+    go true false false k l h e = (eqb-true (kind w) 2 k, not-false (in-range v) (sym (not-too-low 2047 v l) ∙ h))
+    go true false true k l h e = absurd (omega arith)
+    go true true high k l h e = absurd (omega arith)
+    go false low high k l h e = absurd (omega arith)
+
+pub no-fault : (w : ℕ) → kind w ≡ 2 → in-range (value (payload w)) ≡ true → body-cause sample-sheet w ≡ 0
+unfolding body-cause
+no-fault w k r = go (ltZ v (negsuc 2047)) refl
+  where
+    v : ℤ
+    v = value (payload w)
+    go : (low : Bool) → ltZ v (negsuc 2047) ≡ low → _≡_ {A = ℕ} (cond (eqb (kind w) 2) (cond (ltZ v (negsuc 2047) || ltZ (pos 2047) v) 2 0) 7) 0
+    go true l = absurd (subst T (too-low 2047 v l ∙ ap not r) tt)
+    go false l = rw (eq-eqb (kind w) 2 k, l, not-too-low 2047 v l ∙ ap not r)
+
+module _ {words : List ℕ} {b s o : ℕ} (C : Checked words b s o) (k : ℕ) (h : k < blocks words) where
+  -- the words of block k
+  pub block-words : 1 + places * k + places < length words
+  block-words = rw (C .words-length) (omega arith)
+
+  pub block-range : AllInRange (block words k)
+  unfolding block
+  block-range =
+      record {
+        at = λ i l. rw (getD-table places (λ i. value (payload (word-at words (1 + places * k + i)))) (pos 0) i l)
+            (C .samples-in-range (1 + places * k + i) (omega arith) (omega (arith, block-words)));
+      }
+
+  pub block-fit : Fit (block-coefficients b words k)
+  unfolding block-coefficients
+  block-fit =
+      record { small = λ i l. lt-of-le-of-lt (coefficient-size b (block-set (block words k) block-range) (C .at-width) i l) (lit< tt) }
+
+-- what forward and rounding leave of a block whose samples are in range
+
+module _ (words : List ℕ) (k : ℕ) (range : AllInRange (block words k)) where
+  pub forward-leaves : {x left : List ℤ} (e : List ℤ) → x ≡ block words k → length e ≡ components-size → left ≡ forward-elements x e
+      → left ≡ elements-of (block words k)
+  unfolding block
+  forward-leaves {x} e same l was =
+      let size = length-table places (λ i. value (payload (word-at words (1 + places * k + i)))) in
+      rw (was, same) (accepted-leaves (block words k) e (rw (accepts (block words k) e size l range) tt))
+
+  pub round-leaves : {e left : List ℤ} (b : ℕ) (c : List ℤ) → T (width b) → e ≡ elements-of (block words k) → length c ≡ places
+      → left ≡ round-coefficients e b c → left ≡ block-coefficients b words k
+  unfolding block-coefficients round-coefficients
+  round-leaves {e} b c w same l was = was ∙ rw (same, block-accepted (block words k) range b w c l)

@@ -1,0 +1,2 @@
+-- Packing and unpacking are inverse.
+pub mod Packing

@@ -1,0 +1,107 @@
+-- Packing and unpacking are inverse, on the ranges of kinds, payloads, values and sizes.
+-- Assumes nothing.
+use mathlib.Core.Path.{_≡_, refl, ap, _∙_}
+use Prim.Native.Nat.{ℕ, suc, _+_, _-_, _*_, _^_, _≤_, _<_, zero-le}
+use native.Mathlib.Decide.{decLt}
+use native.Mathlib.Nat.{lt-of-le-of-lt, lt-trans}
+use native.Mathlib.Omega.{arith}
+use lib.Dec.{ltb→lt, leb→le, lit<, lt→ltb, le→leb}
+use lib.IntN.{ℤ, pos, negsuc, _-ℤ_, negℤ, natAbs}
+use lib.Signed.{_≤ℤ_, _<ℤ_, mag, natAbs-le}
+use mir.Syntax.{w32}
+use mir.Val.{SFits}
+use borrow.Author.Tests.{lt-ltb, le-ltb}
+use Rattle.words.specs.Word.{payloads, kind, payload, word, value-limit, value, payload-of, across, down}
+
+-- the kind and the payload of a word
+
+pub kind-word : (k p : ℕ) → p < payloads → kind (word k p) ≡ k
+kind-word k p h = omega arith
+
+pub payload-word : (k p : ℕ) → p < payloads → payload (word k p) ≡ p
+payload-word k p h = omega arith
+
+pub word-of-parts : (w : ℕ) → word (kind w) (payload w) ≡ w
+word-of-parts w = omega arith
+
+pub payload-below : (w : ℕ) → payload w < payloads
+payload-below w = omega arith
+
+pub kind-below : (w : ℕ) → w < 2 ^ 32 → kind w < 16
+kind-below w h = omega arith
+
+pub word-below : (k p : ℕ) → k < 16 → p < payloads → word k p < 2 ^ 32
+word-below k p h l = omega arith
+
+-- the sizes in a head, a across and d down
+
+pub across-word : (k a d : ℕ) → a < 2 ^ 14 → d < 2 ^ 14 → across (word k (a * 2 ^ 14 + d)) ≡ a
+across-word k a d h l = omega arith
+
+pub down-word : (k a d : ℕ) → a < 2 ^ 14 → d < 2 ^ 14 → down (word k (a * 2 ^ 14 + d)) ≡ d
+down-word k a d h l = omega arith
+
+-- values: -2^27 to 2^27 - 1
+
+abbrev pub InRange : ℤ → Type 0
+InRange z = (negℤ (pos value-limit) ≤ℤ z) × (z <ℤ pos value-limit)
+
+pub small-in-range : (z : ℤ) → natAbs z < value-limit → InRange z
+small-in-range (pos n) h = (record { le = tt }, record { lt = lt→ltb n value-limit h })
+small-in-range (negsuc n) h = (record { le = le→leb n (value-limit - 1) (omega arith) }, record { lt = tt })
+
+-- the two halves: payloads without the sign bit, and with it
+
+pub value-low : (p : ℕ) → p < value-limit → value p ≡ pos p
+unfolding value
+value-low p h = rw (lt-ltb p value-limit h) refl
+
+pub value-high : (p : ℕ) → value-limit ≤ p → value p ≡ pos p -ℤ pos payloads
+unfolding value
+value-high p h = rw (le-ltb p value-limit h) refl
+
+value-negsuc : (p : ℕ) → value-limit ≤ p → p < payloads → value p ≡ negsuc (payloads - suc p)
+value-negsuc p h l = value-high p h ∙ rw (lt-ltb p payloads l) refl
+
+payload-of-pos : (n : ℕ) → payload-of (pos n) ≡ n
+unfolding payload-of
+payload-of-pos n = rw (le-ltb n 0 zero-le) refl
+
+payload-of-negsuc : (n : ℕ) → payload-of (negsuc n) ≡ payloads - suc n
+unfolding payload-of
+payload-of-negsuc n = refl
+
+in-range-mag : (z : ℤ) → InRange z → mag z < value-limit
+in-range-mag (pos n) r = ltb→lt n value-limit (r .1 .lt)
+in-range-mag (negsuc n) r = lt-of-le-of-lt (leb→le n (value-limit - 1) (r .0 .le)) (lit< tt)
+
+pub value-of-payload : (z : ℤ) → InRange z → value (payload-of z) ≡ z
+value-of-payload (pos n) r = rw (payload-of-pos n) (value-low n (in-range-mag (pos n) r))
+value-of-payload (negsuc n) r =
+    let h = in-range-mag (negsuc n) r in
+    rw (payload-of-negsuc n) (value-negsuc (payloads - suc n) (omega arith) (omega arith) ∙ ap negsuc (omega arith))
+
+pub payload-of-below : (z : ℤ) → InRange z → payload-of z < payloads
+payload-of-below (pos n) r = rw (payload-of-pos n) (omega (arith, in-range-mag (pos n) r))
+payload-of-below (negsuc n) r = rw (payload-of-negsuc n) (omega arith)
+
+pub payload-of-value : (p : ℕ) → p < payloads → payload-of (value p) ≡ p
+payload-of-value p l = go (decLt p value-limit)
+  where
+    go : Dec (p < value-limit) → payload-of (value p) ≡ p
+    go (yes h) = rw (value-low p h) (payload-of-pos p)
+    go (no h) = rw (value-negsuc p (omega arith) l) (payload-of-negsuc (payloads - suc p) ∙ omega arith)
+
+pub value-in-range : (p : ℕ) → p < payloads → InRange (value p)
+value-in-range p l = go (decLt p value-limit)
+  where
+    go : Dec (p < value-limit) → InRange (value p)
+    go (yes h) = rw (value-low p h) (small-in-range (pos p) h)
+    go (no h) =
+        rw (value-negsuc p (omega arith) l) (record { le = le→leb (payloads - suc p) (value-limit - 1) (omega arith) }, record { lt = tt })
+
+pub value-small : (p : ℕ) → p < payloads → natAbs (value p) ≤ value-limit
+value-small p l = natAbs-le (value p) (in-range-mag (value p) (value-in-range p l))
+
+pub value-fits : (p : ℕ) → p < payloads → SFits w32 (value p)
+value-fits p l = record { sfits = lt-trans (in-range-mag (value p) (value-in-range p l)) (lit< tt) }

@@ -1,0 +1,42 @@
+-- Words of a sheet (01, "Sheets"): "a word has 32 bits, its top four bits the kind, the other 28 the payload".
+use mathlib.Core.Bool.{Bool, cond}
+use Prim.Native.Nat.{ℕ, _+_, _-_, _*_, _/_, _%_, _^_, _<_}
+use lib.Dec.{ltb}
+use lib.IntN.{ℤ, pos, _-ℤ_, natAbs}
+use lib.Signed.{ltZ}
+
+-- how many payloads there are
+abbrev pub payloads : ℕ
+payloads = 2 ^ 28
+
+abbrev pub kind : ℕ → ℕ
+kind w = w / payloads
+
+abbrev pub payload : ℕ → ℕ
+payload w = w % payloads
+
+-- the word of a kind k and a payload p
+abbrev pub word : ℕ → ℕ → ℕ
+word k p = k * payloads + p
+
+-- "Values in payloads are 28-bit two's complement"
+
+-- the values that a payload can hold: -2^27 to 2^27 - 1
+abbrev pub value-limit : ℕ
+value-limit = 2 ^ 27
+
+-- the value that a payload stands for
+unfoldable pub value : ℕ → ℤ
+value p = cond (ltb p value-limit) (pos p) (pos p -ℤ pos payloads)
+
+-- the payload that stands for a value
+unfoldable pub payload-of : ℤ → ℕ
+payload-of z = cond (ltZ z (pos 0)) (payloads - natAbs z) (natAbs z)
+
+-- "blocks across in bits 27 to 14, blocks down in bits 13 to 0", of a head
+
+abbrev pub across : ℕ → ℕ
+across w = payload w / 2 ^ 14
+
+abbrev pub down : ℕ → ℕ
+down w = payload w % 2 ^ 14

@@ -1,0 +1,71 @@
+// Words of a sheet (01, "Sheets"): 32 bits, of which the top four are the kind and the others the payload.
+ghost use mathlib.Core.Path.{_≡_};
+ghost use Prim.Native.Nat.{_*_, _<_};
+ghost use lib.IntN.{natAbs};
+ghost use Rattle.words.specs.Word as words;
+
+// How many payloads there are: 2^28.
+const PAYLOADS: u32 = 268435456;
+
+// The values of a payload go from -2^27 to 2^27 - 1.
+const VALUE_LIMIT: u32 = 134217728;
+
+// A negative value and its payload are 2^28 apart.
+const MODULUS: i32 = 268435456;
+
+// A size in a head has 14 bits.
+const SIZES: u32 = 16384;
+
+// The kind of a word.
+pub fn kind(w: u32) -> u32
+    ensures { λ r. ⌜ r ≡ words.kind w ⌝ }
+{
+    w / PAYLOADS
+}
+
+// Its payload.
+pub fn payload(w: u32) -> u32
+    ensures { λ r. ⌜ r ≡ words.payload w ⌝ }
+{
+    w % PAYLOADS
+}
+
+// Its payload as a value.
+pub fn value(w: u32) -> i32
+    ensures { λ r. ⌜ r ≡ words.value (words.payload w) ⌝ }
+{
+    let p = w % PAYLOADS;
+    if p < VALUE_LIMIT {
+        return p as i32;
+    }
+    p as i32 - MODULUS
+}
+
+// The word of a kind k and a payload p.
+pub fn with_payload(k: u32, p: u32) -> u32
+    requires { ⌜ k < 16 ⌝ }
+    requires { ⌜ p < words.payloads ⌝ }
+    ensures { λ r. ⌜ r ≡ words.word k p ⌝ }
+{
+    k * PAYLOADS + p
+}
+
+// The word of a kind k and a value z.
+pub fn with_value(k: u32, z: i32) -> u32
+    requires { ⌜ k < 16 ⌝ }
+    requires { ⌜ natAbs z < words.value-limit ⌝ }
+    ensures { λ r. ⌜ r ≡ words.word k (words.payload-of z) ⌝ }
+{
+    if z < 0 {
+        return with_payload(k, (z + MODULUS) as u32);
+    }
+    with_payload(k, z as u32)
+}
+
+// How many blocks the sizes in a head make.
+pub fn blocks(w: u32) -> u32
+    ensures { λ r. ⌜ r ≡ words.across w * words.down w ⌝ }
+{
+    let sizes = w % PAYLOADS;
+    sizes / SIZES * (sizes % SIZES)
+}
