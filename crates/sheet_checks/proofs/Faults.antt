@@ -1,9 +1,9 @@
 -- The search for the first faulty word.
 -- Assumes nothing.
-use mathlib.Core.Path.{_≡_, refl, sym, ap, _∙_}
+use mathlib.Core.Path.{_≡_, refl}
 use mathlib.Core.Bool.{Bool, true, false, cond, _||_}
 use mathlib.Core.List.{List}
-use Prim.Native.Nat.{ℕ, zero, suc, _+_, _≤_, _<_}
+use Prim.Native.Nat.{ℕ, zero, suc, _+_, _<_}
 use native.Mathlib.Nat.{le-refl}
 use native.Mathlib.Omega.{arith}
 use lib.Dec.{T, eqb, ltb, eqb-refl}
@@ -15,7 +15,6 @@ use mir.Val.{SFits, ofZ, toZ}
 use mir.ValLaws.{toZ-ofZ}
 use borrow.Author.Tests.{eq-eqb, ne-eqb, lt-ltb, le-ltb}
 use Rattle.integers.proofs.Search.{Passed, passed-none, passed-more, first-at, first-none}
-use Rattle.answers.specs.Answer.{Returned, lowest-cause, unless-at}
 use Rattle.words.specs.Word.{kind, payload, value}
 use Rattle.sheet_checks.specs.declared.Format.{Format}
 use Rattle.sheet_checks.specs.Check.{Searched, names-word, end-kind, word-at, blocks, body-cause, end-cause, cause-at, contents}

@@ -9,7 +9,7 @@ use native.Mathlib.Omega.{arith}
 use lib.Dec.{T, eqb, ltb, leb, eqb→eq, leb→le}
 use lib.ListN.{length}
 use mir.Facts.{and-yes}
-use borrow.Author.Tests.{eq-eqb, ne-eqb, lt-ltb, le-ltb, le-leb, lt-leb}
+use borrow.Author.Tests.{eq-eqb, ne-eqb, lt-ltb, le-leb, lt-leb}
 use Rattle.words.specs.Word.{kind, across, down}
 use Rattle.sheet_checks.specs.Check.{word-at, blocks-limit, blocks, sizes-allowed, has-head, allowed-blocks}
 

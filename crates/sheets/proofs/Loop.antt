@@ -10,7 +10,7 @@ use lib.ListN.{length}
 use Rattle.dct.specs.Limits.{components-size}
 use Rattle.transform.specs.Forward.{elements-of}
 use Rattle.sheet_checks.specs.Check.{blocks}
-use Rattle.sheets.specs.Preconditions.{Checked, after-blocks}
+use Rattle.sheets.specs.Preconditions.{Advanced, Checked}
 use Rattle.sheets.specs.Sheet.{block}
 
 -- k blocks are done: the scratch has the elements of the last of them, and the output, which was `output₀`, their words
@@ -19,23 +19,23 @@ pub record Reached (words : List ℕ) (b : ℕ) (output₀ : List ℕ) (k : ℕ)
   pub scratch-kept : length scratch ≡ components-size
   pub output-kept : length output ≡ length output₀
   pub last-block : 0 < k → scratch ≡ elements-of (block words (k - 1))
-  pub so-far : (l : List ℕ) → output₀ ≡ after-blocks b words 0 l → output ≡ after-blocks b words k l
+  pub so-far : Advanced b words 0 k output₀ output
 
 module _ {words : List ℕ} {b : ℕ} {output₀ : List ℕ} where
   pub reached-none : {scratch : List ℤ} → length scratch ≡ components-size → Reached words b output₀ 0 scratch output₀
-  reached-none e = record { done = zero-le; scratch-kept = e; output-kept = refl; last-block = λ h. absurd (not-suc-le-zero h); so-far = λ l was. was }
+  reached-none e = record { done = zero-le; scratch-kept = e; output-kept = refl; last-block = λ h. absurd (not-suc-le-zero h); so-far = record { over-any = λ l was. was } }
 
   pub reached-more : {k : ℕ} {scratch made : List ℤ} {output left : List ℕ} → Reached words b output₀ k scratch output → k < blocks words
       → length made ≡ length scratch → length left ≡ length output → made ≡ elements-of (block words k)
-      → ((l : List ℕ) → output ≡ after-blocks b words k l → left ≡ after-blocks b words (k + 1) l) → Reached words b output₀ (k + 1) made left
-  reached-more {k} R h s o e f =
+      → Advanced b words k (k + 1) output left → Reached words b output₀ (k + 1) made left
+  reached-more {k} R h s o e A =
       let same : k + 1 - 1 ≡ k = omega arith in
       record {
         done = omega arith;
         scratch-kept = s ∙ R .scratch-kept;
         output-kept = o ∙ R .output-kept;
         last-block = λ p. rw same e;
-        so-far = λ l was. f l (R .so-far l was);
+        so-far = record { over-any = λ l was. A .over-any l (R .so-far .over-any l was) };
       }
 
   -- what the next block asks

@@ -12,8 +12,8 @@ use Rattle.integers.proofs.Tables.{length-table, table-ext}
 use Rattle.integers.proofs.Overwriting.{table-append, over-none, over-more, over-lent}
 use Rattle.dct.specs.Limits.{places}
 use Rattle.words.specs.Word.{word, payload}
-use Rattle.sheet_checks.specs.Check.{word-at, blocks, size-of}
-use Rattle.sheets.specs.Preconditions.{Checked, after-blocks}
+use Rattle.sheet_checks.specs.Check.{word-at, size-of}
+use Rattle.sheets.specs.Preconditions.{after-blocks}
 use Rattle.sheets.specs.Sheet.{block-coefficients, coefficient-sheet, coefficient-word, output-word}
 
 -- the words of the output

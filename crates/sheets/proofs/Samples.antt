@@ -3,7 +3,7 @@
 use mathlib.Core.Path.{_≡_, refl, sym, ap, _∙_, subst}
 use mathlib.Core.Bool.{Bool, true, false, cond, not, _||_}
 use mathlib.Core.List.{List}
-use Prim.Native.Nat.{ℕ, suc, _+_, _*_, _^_, _≤_, _<_}
+use Prim.Native.Nat.{ℕ, _+_, _*_, _<_}
 use native.Mathlib.Nat.{lt-of-le-of-lt}
 use native.Mathlib.Omega.{arith}
 use lib.Dec.{T, eqb, lit<}
@@ -21,7 +21,7 @@ use Rattle.rounding.specs.Rounding.{round-coefficients}
 use Rattle.rounding.specs.Tables.{width}
 use Rattle.rounding.proofs.Blocks.{coefficient-size, block-accepted}
 use Rattle.words.specs.Word.{kind, payload, value}
-use Rattle.sheet_checks.specs.Check.{word-at, blocks, size-of, body-cause}
+use Rattle.sheet_checks.specs.Check.{word-at, blocks, body-cause}
 use Rattle.sheets.specs.Preconditions.{Checked, Fit}
 use Rattle.sheets.specs.Sheet.{sample-sheet, block, block-coefficients}
 
@@ -33,6 +33,7 @@ no-cause w e = go (eqb (kind w) 2) (ltZ v (negsuc 2047)) (ltZ (pos 2047) v) refl
   where
     v : ℤ
     v = value (payload w)
+
     go : (k low high : Bool) → eqb (kind w) 2 ≡ k → ltZ v (negsuc 2047) ≡ low → ltZ (pos 2047) v ≡ high
         → _≡_ {A = ℕ} (cond k (cond (low || high) 2 0) 7) 0 → (kind w ≡ 2) × (in-range v ≡ true)
     go true false false k l h e = (eqb-true (kind w) 2 k, not-false (in-range v) (sym (not-too-low 2047 v l) ∙ h))
@@ -46,6 +47,7 @@ no-fault w k r = go (ltZ v (negsuc 2047)) refl
   where
     v : ℤ
     v = value (payload w)
+
     go : (low : Bool) → ltZ v (negsuc 2047) ≡ low → _≡_ {A = ℕ} (cond (eqb (kind w) 2) (cond (ltZ v (negsuc 2047) || ltZ (pos 2047) v) 2 0) 7) 0
     go true l = absurd (subst T (too-low 2047 v l ∙ ap not r) tt)
     go false l = rw (eq-eqb (kind w) 2 k, l, not-too-low 2047 v l ∙ ap not r)

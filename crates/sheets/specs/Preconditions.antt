@@ -29,3 +29,7 @@ pub record Fit (coefficients : List ℤ) : Type 0 where
 -- the output once its head and k blocks are written; before, it was l
 abbrev pub after-blocks : ℕ → List ℕ → ℕ → List ℕ → List ℕ
 after-blocks b words k l = over (table (1 + places * k) (output-word b words)) l
+
+-- the output went on from j blocks to k: whatever it was written over
+pub record Advanced (b : ℕ) (words : List ℕ) (j k : ℕ) (was left : List ℕ) : Type 0 where
+  pub over-any : (l : List ℕ) → was ≡ after-blocks b words j l → left ≡ after-blocks b words k l

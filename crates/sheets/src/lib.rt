@@ -4,8 +4,7 @@
 // coefficient sheet, a refused one leaves both buffers as they were and names the first cause. Each block goes by way of `forward` and `round`,
 // whose contracts say what it becomes.
 ghost use mathlib.Core.Path.{_≡_};
-ghost use mathlib.Core.List.{List};
-ghost use Prim.Native.Nat.{ℕ, _*_, _+_, _-_, _<_, _≤_};
+ghost use Prim.Native.Nat.{_*_, _+_, _-_, _<_, _≤_};
 ghost use lib.Dec.{T};
 ghost use lib.ListN.{length};
 ghost use Rattle.integers.specs.Table.{over, table};
@@ -14,7 +13,7 @@ ghost use Rattle.answers.specs.Answer.{returned};
 ghost use Rattle.transform.specs.Forward.{AllInRange, elements-of};
 ghost use Rattle.rounding.specs.Tables.{width};
 ghost use Rattle.sheet_checks.specs.Check as check;
-ghost use Rattle.sheets.specs.Preconditions.{Checked, Fit, after-blocks};
+ghost use Rattle.sheets.specs.Preconditions.{Advanced, Checked, Fit};
 ghost use Rattle.sheets.specs.Sheet as sheets;
 ghost use Rattle.sheets.specs.Sheet.{sheet-output, sheet-returned, sheet-scratch};
 use answers::Answer;
@@ -109,7 +108,7 @@ fn next_block(
     requires { ⌜ state .blocks < check.blocks (now words) ⌝ }
     ensures { λ r. ⌜ r .blocks ≡ state .blocks + 1 ⌝ }
     ensures { λ r. ⌜ now (scratch .exit) ≡ elements-of (sheets.block (now (words .entry)) (state .blocks)) ⌝ }
-    ensures { λ r. ⌜ ((l : List ℕ) → now (output .entry) ≡ after-blocks b (now (words .entry)) (state .blocks) l → now (output .exit) ≡ after-blocks b (now (words .entry)) (state .blocks + 1) l) ⌝ }
+    ensures { λ r. ⌜ Advanced b (now (words .entry)) (state .blocks) (state .blocks + 1) (now (output .entry)) (now (output .exit)) ⌝ }
 {
     let k = state.blocks;
     let first = 1 + PLACES * k;
@@ -121,7 +120,7 @@ fn next_block(
 fn all_blocks(words: &[u32], b: u32, scratch: &mut [i32], output: &mut [u32])
     requires { ⌜ Checked (now words) b (length (now scratch)) (length (now output)) ⌝ }
     ensures { λ r. ⌜ now (scratch .exit) ≡ elements-of (sheets.block (now (words .entry)) (check.blocks (now (words .entry)) - 1)) ⌝ }
-    ensures { λ r. ⌜ ((l : List ℕ) → now (output .entry) ≡ after-blocks b (now (words .entry)) 0 l → now (output .exit) ≡ after-blocks b (now (words .entry)) (check.blocks (now (words .entry))) l) ⌝ }
+    ensures { λ r. ⌜ Advanced b (now (words .entry)) 0 (check.blocks (now (words .entry))) (now (output .entry)) (now (output .exit)) ⌝ }
 {
     let n = words.len() / PLACES;
     let mut state = Progress { blocks: 0 };

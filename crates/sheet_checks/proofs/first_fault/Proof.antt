@@ -1,8 +1,9 @@
-use mathlib.Core.Path.{_≡_, refl, sym, ap, _∙_}
-use mathlib.Core.List.{List}
-use Prim.Native.Nat.{ℕ, _+_, _-_, _*_, _≤_, _<_}
+-- `first_fault` meets its contract: the loop passes every word of the body that has no fault.
+-- Assumes nothing.
+use mathlib.Core.Path.{_≡_, sym, _∙_}
+use Prim.Native.Nat.{_-_, _≤_, _<_}
 use native.Mathlib.Omega.{arith}
-use lib.ListN.{length, getD}
+use lib.ListN.{length}
 use lib.Dec.{ltb}
 use borrow.Author.Needs.{needs}
 use Rattle.integers.proofs.Search.{Passed}
@@ -10,10 +11,6 @@ use Rattle.sheet_checks.specs.Check.{cause-at}
 use Rattle.sheet_checks.proofs.Faults.{cause-body, cause-end, head-passed, body-passed, ends}
 use Rattle.sheet_checks.proofs.first_fault.Statement.{statement}
 use Rattle.sheet_checks.proofs.first_fault.Tie as tie
-use Rattle.sheet_checks.proofs.first_fault.Reads as reads
-use Rattle.sheet_checks.proofs.first_fault.Lts as lts
-use Rattle.sheet_checks.proofs.body_cause.Reads as body-cause-reads
-use Rattle.sheet_checks.proofs.end_cause.Reads as end-cause-reads
 
 abbrev Inv-loop : tie.InvT-loop
 Inv-loop f n sheet last i₀ i = (0 < i) × (i ≤ last) × Passed (length sheet) (λ i. ltb 0 (cause-at f sheet i)) i
@@ -76,19 +73,5 @@ returns-2 c =
 pub first-fault-spec : {M : Type 1} → statement M
 first-fault-spec =
     tie.close
-    (tie.spec
-    Inv-loop
-    μ-loop
-    sub-last
-    loop-holds
-    mul-body-cause
-    shared-slice-read-body-cause
-    body-cause-requires
-    returns
-    add-i
-    loop-less
-    loop-again
-    mul-end-cause
-    shared-slice-read-end-cause
-    end-cause-requires
-    returns-2)
+    (tie.spec Inv-loop μ-loop sub-last loop-holds mul-body-cause shared-slice-read-body-cause body-cause-requires returns add-i loop-less loop-again
+    mul-end-cause shared-slice-read-end-cause end-cause-requires returns-2)

@@ -1,9 +1,8 @@
 -- `all_blocks` meets its contract: the loop does one block after the other.
 -- Assumes nothing.
 use mathlib.Core.Path.{_≡_, sym, _∙_}
-use Prim.Native.Nat.{_-_, _/_}
+use Prim.Native.Nat.{_-_}
 use native.Mathlib.Omega.{arith}
-use lib.ListN.{length}
 use Rattle.sheet_checks.specs.Check.{blocks}
 use Rattle.sheets.proofs.Loop.{Reached, reached-none, reached-more, checked-on}
 use Rattle.sheets.proofs.all_blocks.Statement.{statement}

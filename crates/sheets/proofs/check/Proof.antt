@@ -87,5 +87,5 @@ returns-7 c =
 pub check-spec : {M : Type 1} → statement M
 check-spec =
     tie.close
-    (tie.spec is-width-requires returns blocks-of-requires returns-2 mul-if3 add-if3 returns-3 returns-4 returns-5 first-fault-requires refusal-requires
-    returns-6 returns-7)
+    (tie.spec is-width-requires returns blocks-of-requires returns-2 mul-if3 add-if3 returns-3 returns-4 returns-5 first-fault-requires
+    refusal-requires returns-6 returns-7)

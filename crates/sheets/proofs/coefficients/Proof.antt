@@ -1,6 +1,6 @@
 -- `coefficients` meets its contract: forward and rounding accept the block.
 -- Assumes nothing.
-use mathlib.Core.Path.{_≡_, refl, _∙_}
+use mathlib.Core.Path.{refl}
 use borrow.Author.Needs.{needs}
 use Rattle.sheets.proofs.Samples.{forward-leaves, round-leaves}
 use Rattle.sheets.proofs.coefficients.Statement.{statement}
@@ -38,11 +38,4 @@ returns c =
 pub coefficients-spec : {M : Type 1} → statement M
 coefficients-spec =
     tie.close
-    (tie.spec
-    block-requires
-    slice-aggregate-forward
-    forward-requires
-    slice-aggregate-round
-    round-requires
-    same-length
-    returns)
+    (tie.spec block-requires slice-aggregate-forward forward-requires slice-aggregate-round round-requires same-length returns)

@@ -1,14 +1,12 @@
 -- `convert` meets its contract: the head, the blocks and the end word are written one after the other.
 -- Assumes nothing.
-use mathlib.Core.Path.{_≡_, sym, ap, _∙_}
-use mathlib.Core.List.{List}
-use Prim.Native.Nat.{ℕ, _-_}
+use mathlib.Core.Path.{_≡_, ap, _∙_}
+use Prim.Native.Nat.{_-_}
 use native.Mathlib.Omega.{arith}
-use lib.ListN.{length, set, length-set}
+use lib.ListN.{length, length-set}
 use borrow.Author.Needs.{needs}
 use Rattle.words.specs.Word.{word}
-use Rattle.sheet_checks.specs.Check.{blocks, word-at}
-use Rattle.sheets.specs.Preconditions.{after-blocks}
+use Rattle.sheet_checks.specs.Check.{blocks}
 use Rattle.sheets.proofs.Output.{head-written, end-written}
 use Rattle.sheets.proofs.convert.Statement.{statement}
 use Rattle.sheets.proofs.convert.Tie as tie
@@ -65,24 +63,12 @@ returns c =
     let l = start .args .output .now in
     let head = head-written (start .args .b) words l (omega arith) (headed .with-payload .ensures ∙ ap (word 4) (headed .before .payload .ensures)) in (
       called .all-blocks .ensures .0,
-      rw (called .all-blocks .ensures .1 l head)
+      rw (called .all-blocks .ensures .1 .over-any l head)
           (end-written (start .args .b) words l (blocks words) (length words - 1) (checked .words-length) (checked .output-size) (omega arith)),
     )
 
 pub convert-spec : {M : Type 1} → statement M
 convert-spec =
     tie.close
-    (tie.spec
-    shared-slice-read-payload
-    payload-requires
-    with-payload-requires
-    slice-write-output
-    all-blocks-requires
-    sub-end
-    mul-output
-    shared-slice-read-output
-    mul-output-2
-    slice-write-output-2
-    same-length
-    same-length-2
-    returns)
+    (tie.spec shared-slice-read-payload payload-requires with-payload-requires slice-write-output all-blocks-requires sub-end mul-output
+    shared-slice-read-output mul-output-2 slice-write-output-2 same-length same-length-2 returns)

@@ -64,24 +64,15 @@ returns c =
       refl,
       (
         made .coefficients .ensures .1,
-        λ l was. block-written (start .args .b) (start .args .words .now) l k _ _ (made .coefficients .result) refl room (checked .output-size)
-            (made .coefficients .ensures .0) refl (stored .store .ensures) was,
+        record {
+          over-any = λ l was. block-written (start .args .b) (start .args .words .now) l k _ _ (made .coefficients .result) refl room
+              (checked .output-size) (made .coefficients .ensures .0) refl (stored .store .ensures) was;
+        },
       ),
     )
 
 pub next-block-spec : {M : Type 1} → statement M
 next-block-spec =
     tie.close
-    (tie.spec
-    mul-first
-    add-first
-    coefficients-requires
-    mul-store
-    sub-store
-    part-store-start
-    part-store-end
-    store-requires
-    add-t8
-    same-length
-    same-length-2
-    returns)
+    (tie.spec mul-first add-first coefficients-requires mul-store sub-store part-store-start part-store-end store-requires add-t8 same-length
+    same-length-2 returns)

@@ -1,6 +1,5 @@
 -- `sheet` meets its contract: what the check answers decides what is left.
 -- Assumes nothing.
-use mathlib.Core.Path.{ap, _∙_}
 use borrow.Author.Needs.{needs}
 use Rattle.sheets.proofs.Causes.{refused-sheet, accepted-sheet, checked}
 use Rattle.sheets.proofs.sheet.Statement.{statement}
@@ -38,11 +37,4 @@ returns-2 c = refused-sheet _ _ _ _ (c .before .before .check .ensures) (c .befo
 pub sheet-spec : {M : Type 1} → statement M
 sheet-spec =
     tie.close
-    (tie.spec
-    check-requires
-    number-requires
-    convert-requires
-    same-length
-    same-length-2
-    returns
-    returns-2)
+    (tie.spec check-requires number-requires convert-requires same-length same-length-2 returns returns-2)
