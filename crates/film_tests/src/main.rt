@@ -1,10 +1,11 @@
-// Runs 01's films of blocks and of elements through forward, back and rounding, and some more calls of their kind, and prints what each returns
-// and leaves; the file stdout has what 01 says, or what follows from its rules. A line has the number and the place that the call returns,
-// and then some numbers of its buffer, which held 7 before.
+// Runs 01's films through forward, back, rounding and the sheet job, and some more calls of their kind, and prints what each returns and leaves;
+// the file stdout has what 01 says, or what follows from its rules. A line has the number and the place that the call returns, and then some
+// numbers of its buffers, which held 7 before.
 ghost use Prim.Native.Nat.{_<_};
 use answers::Answer;
 use inverse::back;
 use rounding::round;
+use sheets::sheet;
 use transform::forward;
 
 // The digits of n below 10^10, without zeros in front, and a byte after them.
@@ -27,6 +28,10 @@ fn print(n: i32, after: u8) {
         io::write_all(1, b"-");
     }
     print_digits(integers::magnitude(n), after);
+}
+
+fn print_word(w: u32, after: u8) {
+    print_digits(w as u64, after);
 }
 
 fn print_answer(a: Answer) {
@@ -139,6 +144,60 @@ fn try_return(other: i32, x: i32, k: usize, x2: i32)
     print(samples[63], b'\n');
 }
 
+// The sheet job at b, on 01's sheet of ones but for the word x at index i: words 0, 1, 2 and 65 of an output of 67, the word beyond, and the first
+// and the last number of the scratch.
+fn try_sheet(x: u32, i: usize, b: u32)
+    requires { ⌜ i < 66 ⌝ }
+{
+    let mut words = [0x20000001u32; 66];
+    words[0] = 0x10004001;
+    words[65] = 0xF0000001;
+    words[i] = x;
+    let mut output = [7u32; 67];
+    let mut scratch = [7i32; 512];
+    print_answer(sheet(&words, b, &mut scratch, &mut output));
+    print_word(output[0], b' ');
+    print_word(output[1], b' ');
+    print_word(output[2], b' ');
+    print_word(output[65], b' ');
+    print_word(output[66], b' ');
+    print(scratch[0], b' ');
+    print(scratch[511], b'\n');
+}
+
+// 66 words of a head: a scratch of 511 or an output of 65 is cause 1, before the second word's 7. 65 words of a head: 7 at 65, before 1.
+fn short_sheet() {
+    let head = [0x10004001u32; 66];
+    let mut output = [7u32; 66];
+    let mut scratch = [7i32; 512];
+    let mut short_scratch = [7i32; 511];
+    let mut short_output = [7u32; 65];
+    print_answer(sheet(&head, 26, &mut short_scratch, &mut output));
+    print_word(output[0], b' ');
+    print(short_scratch[0], b'\n');
+    print_answer(sheet(&head, 26, &mut scratch, &mut short_output));
+    print_word(short_output[0], b' ');
+    print(scratch[0], b'\n');
+    print_answer(sheet(
+        &[0x10004001u32; 65],
+        26,
+        &mut short_scratch,
+        &mut short_output,
+    ));
+    print_word(short_output[0], b' ');
+    print(short_scratch[0], b'\n');
+}
+
+// No words: 6, and at b = 12 3 before it.
+fn empty_sheet(b: u32) {
+    let words = [0u32; 1];
+    let mut output = [7u32; 66];
+    let mut scratch = [7i32; 512];
+    print_answer(sheet(&words[..0], b, &mut scratch, &mut output));
+    print_word(output[0], b' ');
+    print(scratch[0], b'\n');
+}
+
 fn forward_films() {
     io::write_all(1, b"forward\n");
     try_forward(1, 1, 0);
@@ -198,10 +257,33 @@ fn both_films() {
     try_both(2047, 2047, 26);
 }
 
+fn sheet_films() {
+    io::write_all(1, b"sheet\n");
+    try_sheet(0x20000001, 1, 11);
+    try_sheet(0x20000001, 1, 20);
+    try_sheet(0x20000001, 1, 26);
+    try_sheet(0x200007FF, 1, 26);
+    try_sheet(0x20000800, 1, 26);
+    try_sheet(0x2FFFF800, 64, 11);
+    try_sheet(0x2FFFF7FF, 64, 11);
+    try_sheet(0x30000800, 32, 20);
+    try_sheet(0xE0000002, 65, 20);
+    try_sheet(0xF0000002, 65, 20);
+    try_sheet(0x40004001, 0, 26);
+    try_sheet(0x10000001, 0, 26);
+    try_sheet(0x10004002, 0, 26);
+    try_sheet(0x10204001, 0, 26);
+    try_sheet(0x20000800, 1, 12);
+    short_sheet();
+    empty_sheet(26);
+    empty_sheet(12);
+}
+
 fn main() {
     forward_films();
     back_films();
     return_films();
     round_films();
     both_films();
+    sheet_films();
 }
