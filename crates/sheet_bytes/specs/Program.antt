@@ -24,6 +24,10 @@ input-limit = 32780
 abbrev pub words-limit : ℕ
 words-limit = size-of blocks-limit
 
+-- and its bytes, which are the most that the program writes
+abbrev pub output-limit : ℕ
+output-limit = 4 * words-limit
+
 -- "(most significant byte first)"
 
 abbrev pub byte-at : List ℕ → ℕ → ℕ

@@ -3,12 +3,13 @@
 // `convert` takes any bytes and looks at the first 32,780 of them, which is what the program reads. It is proved whole, the decimals of the
 // refusal included; the program only reads, calls it and writes.
 ghost use mathlib.Core.Path.{_≡_};
-ghost use mathlib.Core.List.{_++_};
-ghost use Prim.Native.Nat.{_+_, _*_, _≤_, _<_};
-ghost use lib.ListN.{length, take, drop};
+ghost use Prim.Native.Nat.{_+_, _*_, _/_, _≤_, _<_, min};
+ghost use lib.ListN.{length, take};
+ghost use Rattle.io.specs.Counts.{Counts};
 ghost use Rattle.integers.specs.Table.{over};
+ghost use Rattle.sheet_bytes.specs.Parts.{Continued};
 ghost use Rattle.sheet_bytes.specs.Program as program;
-ghost use Rattle.sheet_bytes.specs.Program.{input-limit, output-bytes};
+ghost use Rattle.sheet_bytes.specs.Program.{input-limit, output-bytes, output-limit};
 use answers::number;
 use answers::place;
 use elements::COMPONENTS;
@@ -25,10 +26,129 @@ const WORDS_LIMIT: usize = 8194;
 
 pub const OUTPUT_LIMIT: usize = 32776;
 
+// The word of the four bytes from index i on.
+fn word_from(bytes: &[u8], i: usize) -> u32
+    requires { ⌜ i + 4 ≤ length (now bytes) ⌝ }
+    ensures { λ r. ⌜ r ≡ program.word-from (now (bytes .entry)) i ⌝ }
+{
+    let a = bytes[i] as u32;
+    let b = bytes[i + 1] as u32;
+    let c = bytes[i + 2] as u32;
+    let d = bytes[i + 3] as u32;
+    16777216 * a + 65536 * b + 256 * c + d
+}
+
+// The whole words of some bytes, at the start of `words`.
+fn load(bytes: &[u8], words: &mut [u32])
+    requires { ⌜ length (now bytes) / 4 ≤ length (now words) ⌝ }
+    ensures { λ r. ⌜ now (words .exit) ≡ over (program.words-of (now (bytes .entry))) (now (words .entry)) ⌝ }
+{
+    let n = bytes.len() / 4;
+    let mut i = 0;
+    while i < n {
+        words[i] = word_from(bytes, 4 * i);
+        i += 1;
+    }
+}
+
+// Byte i of a word, of which byte 0 is the most significant.
+fn byte_of(w: u32, i: usize) -> u8
+    requires { ⌜ i < 4 ⌝ }
+    ensures { λ r. ⌜ r ≡ program.byte-of w i ⌝ }
+{
+    let shift = 24 - 8 * i as u32;
+    ((w >> shift) % 256) as u8
+}
+
+// The bytes of some words, at the start of `output`, and how many there are.
+fn store(words: &[u32], output: &mut [u8]) -> usize
+    requires { ⌜ 4 * length (now words) ≤ length (now output) ⌝ }
+    ensures { λ r. ⌜ r ≡ 4 * length (now (words .entry)) ⌝ }
+    ensures { λ r. ⌜ now (output .exit) ≡ over (program.bytes-of (now (words .entry))) (now (output .entry)) ⌝ }
+{
+    let n = 4 * words.len();
+    let mut i = 0;
+    while i < n {
+        output[i] = byte_of(words[i / 4], i % 4);
+        i += 1;
+    }
+    n
+}
+
+// A text, written over the start of `output`.
+fn copy(text: &[u8], output: &mut [u8])
+    requires { ⌜ length (now text) ≤ length (now output) ⌝ }
+    ensures { λ r. ⌜ now (output .exit) ≡ over (now (text .entry)) (now (output .entry)) ⌝ }
+{
+    let mut i = 0;
+    while i < text.len() {
+        output[i] = text[i];
+        i += 1;
+    }
+}
+
+// A text, written from index `at` on, and where it ends.
+fn put(text: &[u8], output: &mut [u8], at: usize) -> usize
+    requires { ⌜ at + length (now text) ≤ length (now output) ⌝ }
+    ensures { λ r. ⌜ Continued (now (text .entry)) at (now (output .entry)) (now (output .exit)) r ⌝ }
+{
+    copy(text, &mut output[at..]);
+    at + text.len()
+}
+
+// A number in decimal, written from index `at` on, and where it ends.
+fn put_decimal(n: u64, output: &mut [u8], at: usize) -> usize
+    requires { ⌜ at + 20 ≤ length (now output) ⌝ }
+    ensures { λ r. ⌜ Continued (program.decimal n) at (now (output .entry)) (now (output .exit)) r ⌝ }
+    ensures { λ r. ⌜ r ≤ at + 20 ⌝ }
+{
+    let mut text = [0u8; 20];
+    let k = io::decimal(n, &mut text);
+    put(&text[..k], output, at)
+}
+
+// The line of a refusal, at the start of `output`, and its length: at most 53, since a number has at most 20 digits.
+fn line(number: u64, place: u64, output: &mut [u8]) -> usize
+    requires { ⌜ 53 ≤ length (now output) ⌝ }
+    ensures { λ r. ⌜ r ≡ length (program.refusal-line (record { number = number; place = place })) ⌝ }
+    ensures { λ r. ⌜ now (output .exit) ≡ over (program.refusal-line (record { number = number; place = place })) (now (output .entry)) ⌝ }
+{
+    let mut at = put(b"refused ", output, 0);
+    at = put_decimal(number, output, at);
+    at = put(b" at ", output, at);
+    at = put_decimal(place, output, at);
+    put(b"\n", output, at)
+}
+
+// The smaller of two lengths.
+fn least(a: usize, b: usize) -> usize
+    ensures { λ r. ⌜ r ≡ min a b ⌝ }
+{
+    if a < b { a } else { b }
+}
+
+// What is written for whole words, at the start of `output`, and how many bytes there are.
+fn answer_words(words: &[u32], output: &mut [u8]) -> usize
+    requires { ⌜ output-limit ≤ length (now output) ⌝ }
+    ensures { λ r. ⌜ r ≡ length (program.answered (now (words .entry))) ⌝ }
+    ensures { λ r. ⌜ now (output .exit) ≡ over (program.answered (now (words .entry))) (now (output .entry)) ⌝ }
+{
+    let mut scratch = [0i32; COMPONENTS];
+    let mut made = [0u32; WORDS_LIMIT];
+    let answer = sheet(words, WIDTH, &mut scratch, &mut made);
+    let n = number(answer);
+    let p = place(answer);
+    if n != 0 {
+        return line(n as u64, p as u64, output);
+    }
+    store(&made[..p], output)
+}
+
 // The bytes that the program writes for `input`, at the start of `output`, and how many there are.
 pub fn convert(input: &[u8], output: &mut [u8; 32776]) -> usize
     ensures { λ r. ⌜ r ≡ length (output-bytes (take input-limit (now (input .entry)))) ⌝ }
     ensures { λ r. ⌜ now (output .exit) ≡ over (output-bytes (take input-limit (now (input .entry)))) (now (output .entry)) ⌝ }
+    ensures { λ r. ⌜ Counts r (now (output .exit)) ⌝ }
 {
     let read = least(input.len(), INPUT_LIMIT);
     let count = read / 4;
@@ -37,13 +157,5 @@ pub fn convert(input: &[u8], output: &mut [u8; 32776]) -> usize
     }
     let mut words = [0u32; INPUT_LIMIT / 4];
     load(&input[..read], &mut words);
-    let mut scratch = [0i32; COMPONENTS];
-    let mut made = [0u32; WORDS_LIMIT];
-    let answer = sheet(&words[..count], WIDTH, &mut scratch, &mut made);
-    let n = number(answer);
-    let p = place(answer);
-    if n != 0 {
-        return line(n as u64, p as u64, output);
-    }
-    store(&made[..p], output)
+    answer_words(&words[..count], output)
 }

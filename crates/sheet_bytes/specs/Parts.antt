@@ -1,0 +1,12 @@
+-- A line that is written part after part, at the start of a buffer.
+use mathlib.Core.Path.{_≡_}
+use mathlib.Core.List.{List, _++_}
+use Prim.Native.Nat.{ℕ, _+_}
+use lib.ListN.{length}
+use Rattle.integers.specs.Table.{over}
+
+-- a part was written from index `at` on, and ends at r: where p stood over the start of l and ended there, p and the part do now
+pub record Continued (part : List ℕ) (at : ℕ) (before after : List ℕ) (r : ℕ) : Type 0 where
+  pub end : r ≡ at + length part
+  pub size : length after ≡ length before
+  pub more : (p l : List ℕ) → length p ≡ at → length before ≡ length l → before ≡ over p l → after ≡ over (p ++ part) l
