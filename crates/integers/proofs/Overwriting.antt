@@ -31,6 +31,11 @@ module _ {A : Type 0} where
   unfolding over
   length-over p l h = simp (length-append, length-drop) (omega arith)
 
+  -- what was written
+  pub take-over : (p l : List A) (n : ℕ) → length p ≡ n → take n (over p l) ≡ p
+  unfolding over
+  take-over p l n e = take-at p (drop (length p) l) n e
+
   pub getD-over : (p l : List A) (d : A) (i : ℕ) → i < length p → getD (over p l) i d ≡ getD p i d
   unfolding over
   getD-over p l d i h = List·getD-append p (drop (length p) l) d i h

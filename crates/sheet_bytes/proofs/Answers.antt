@@ -6,11 +6,10 @@ use Prim.Native.Nat.{ℕ, _*_, _/_, _%_, _≤_}
 use native.Mathlib.Omega.{arith}
 use lib.Dec.{T}
 use lib.IntN.{ℤ, pos}
-use lib.ListN.{length, take, drop, replicate, length-replicate}
-use lib.Seq.{take-at}
+use lib.ListN.{length, take, replicate, length-replicate}
 use borrow.Author.Tests.{ne-eqb}
 use Rattle.integers.specs.Table.{over}
-use Rattle.integers.proofs.Overwriting.{length-over}
+use Rattle.integers.proofs.Overwriting.{length-over, take-over}
 use Rattle.integers.proofs.Tables.{length-table}
 use Rattle.integers.proofs.Tests.{holds}
 use Rattle.dct.specs.Limits.{components-size}
@@ -21,15 +20,17 @@ use Rattle.sheets.specs.Sheet.{output-word, coefficient-sheet, sheet-returned, 
 use Rattle.sheets.proofs.Causes.{accepted-checked, accepted-returns}
 use Rattle.sheet_bytes.specs.Program.{program-width, words-limit, byte-of, bytes-of, refusal-line, answer, answered}
 
--- what was written over the start of a list
-pub take-over : (p l : List ℕ) (n : ℕ) → length p ≡ n → take n (over p l) ≡ p
-unfolding over
-take-over p l n e = take-at p (drop (length p) l) n e
-
 -- the bytes of some words are four for each
 pub length-bytes : (words : List ℕ) → length (bytes-of words) ≡ 4 * length words
 unfolding bytes-of
 length-bytes words = length-table (4 * length words) (λ i. byte-of (word-at words (i / 4)) (i % 4))
+
+-- an accepted sheet: p words were written, and stand at the start of `left`
+pub record Written (words left : List ℕ) (p : ℕ) : Type 0 where
+  pub room : p ≤ words-limit
+  pub size : length left ≡ words-limit
+  pub count : length (take p left) ≡ p
+  pub is : bytes-of (take p left) ≡ answered words
 
 -- a call of the sheet job with zeros in its buffers and room for every sheet, which answers r: the number n and the place p
 
@@ -48,25 +49,19 @@ module _ (words : List ℕ) (r : Returned) (e : r ≡ sheet-returned words progr
   pub refused : (n ≡ 0 → ⊥) → refusal-line (record { number = n; place = p }) ≡ answered words
   refused h = rw (f, g, ← is-answer, ne-eqb (r .number) 0 (λ z. h (f ∙ z)))
 
-  -- it is accepted, and the buffer for the words holds `left`
-  pub record Written (left : List ℕ) : Type 0 where
-    pub room : p ≤ words-limit
-    pub size : length left ≡ words-limit
-    pub count : length (take p left) ≡ p
-    pub is : bytes-of (take p left) ≡ answered words
-
-  pub written : (left : List ℕ) → n ≡ 0 → left ≡ sheet-output words program-width scratch made → Written left
+  -- it is accepted
+  pub written : (left : List ℕ) → n ≡ 0 → left ≡ sheet-output words program-width scratch made → Written words left p
   unfolding sheet-output coefficient-sheet
   written left h l =
       let m : length made ≡ words-limit = length-replicate {A = ℕ} words-limit 0 in
       let t : T (accepted r) = rw (sym f ∙ h) tt in
       let checked = accepted-checked words program-width (length scratch) (length made) (rw e at t) in
-      let returned = accepted-returns words program-width (length scratch) (length made) (rw e at t) in
+      let returns = accepted-returns words program-width (length scratch) (length made) (rw e at t) in
       let sheet = coefficient-sheet program-width words in
       let size : length sheet ≡ length words = length-table (length words) (output-word program-width words) in
-      let place : p ≡ length words = g ∙ ap (λ r. r .place) (e ∙ returned) in
-      let over-made : left ≡ over sheet made =
-      l ∙ accepted-written (sheet-returned words program-width (length scratch) (length made)) (over sheet made) made (rw e at t) in
+      let place : p ≡ length words = g ∙ ap (λ r. r .place) (e ∙ returns) in
+      let answer = sheet-returned words program-width (length scratch) (length made) in
+      let over-made : left ≡ over sheet made = l ∙ accepted-written answer (over sheet made) made (rw e at t) in
       let start : take p left ≡ sheet = rw (place, over-made) (take-over sheet made (length words) size) in
       record {
         room = omega (arith, checked .output-size);

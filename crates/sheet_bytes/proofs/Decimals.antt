@@ -1,9 +1,9 @@
--- The digits that `io::decimal` makes of a number of 64 bits are those of the definition.
+-- The digits that `io::decimal` makes of a number are those of the definition, and a number of 64 bits has at most 20.
 -- Assumes nothing.
 use mathlib.Core.Path.{_≡_, sym, ap}
 use mathlib.Core.Bool.{Bool}
-use Prim.Native.Nat.{ℕ, zero, suc, _-_, _^_, _≤_, _<_}
-use native.Mathlib.Nat.{le-trans, pow-le-pow-right}
+use Prim.Native.Nat.{ℕ, zero, suc, _^_, _≤_, _<_}
+use native.Mathlib.Nat.{le-trans, pow-le-pow-right, pow-suc}
 use native.Mathlib.Decide.{decLt}
 use native.Mathlib.Numerals.{sub-one}
 use native.Mathlib.Omega.{arith}
@@ -11,7 +11,7 @@ use lib.Dec.{ltb}
 use borrow.Author.Tests.{lt-ltb, le-ltb}
 use Rattle.io.specs.Digits.{digits, Fewest}
 use Rattle.integers.specs.Search.{first}
-use Rattle.integers.proofs.Search.{Passed, first-at, first-none}
+use Rattle.integers.proofs.Search.{passed-none, first-at, first-none}
 use Rattle.sheet_bytes.specs.Program.{decimal}
 
 -- k + 1 digits hold n
@@ -30,15 +30,25 @@ twenty n (suc k) h F = go (decLt k 20)
     go (yes p) = p
     go (no q) = let high : 10 ^ 20 ≤ n = least n k F 20 (omega arith) (omega arith) in omega arith
 
-passed : (n k : ℕ) → k ≤ 19 → Fewest 10 1 n (suc k) → Passed 19 (enough n) k
-unfolding enough
-passed n k h F = record { room = h; fails = λ j l. le-ltb n (10 ^ suc j) (least n k F (suc j) (omega arith) l) }
+less-power : (k : ℕ) → k < 10 ^ k
+less-power zero = omega arith
+less-power (suc k) = omega (arith, less-power k, pow-suc 10 k)
 
-pub fewest : (n r : ℕ) → r ≤ 20 → Fewest 10 1 n r → digits 10 r n ≡ decimal n
-unfolding decimal enough
-fewest n zero h F = absurd (omega arith)
-fewest n (suc k) h F = ap (λ j. digits 10 (suc j) n) (sym (go (decLt k 19)))
+-- the search in the definition ends there
+at-fewest : (n k : ℕ) → Fewest 10 1 n (suc k) → first n (enough n) ≡ k
+unfolding enough
+at-fewest n zero F = go n F
   where
-    go : Dec (k < 19) → first 19 (enough n) ≡ k
-    go (yes p) = first-at 19 (enough n) k p (passed n k (omega arith) F) (lt-ltb n (10 ^ suc k) (F .1))
-    go (no q) = let e : k ≡ 19 = omega arith in rw e (first-none 19 (enough n) (rw e at (passed n k (omega arith) F)))
+    go : (n : ℕ) → Fewest 10 1 n 1 → first n (λ k. ltb n (10 ^ suc k)) ≡ 0
+    go zero F = first-none zero (λ k. ltb zero (10 ^ suc k)) passed-none
+    go (suc n) F = first-at (suc n) (λ k. ltb (suc n) (10 ^ suc k)) zero (omega arith) passed-none (lt-ltb (suc n) (10 ^ 1) (F .1))
+at-fewest n (suc k) F =
+    let high : 10 ^ suc k ≤ n = least n (suc k) F (suc k) (omega arith) (omega arith) in
+    let below : suc k < n = omega (arith, less-power (suc k)) in
+    first-at n (enough n) (suc k) below
+    (record { room = omega arith; fails = λ j l. le-ltb n (10 ^ suc j) (least n (suc k) F (suc j) (omega arith) l) }) (lt-ltb n (10 ^ suc (suc k)) (F .1))
+
+pub fewest : (n r : ℕ) → Fewest 10 1 n r → digits 10 r n ≡ decimal n
+unfolding decimal enough
+fewest n zero F = absurd (omega arith)
+fewest n (suc k) F = ap (λ j. digits 10 (suc j) n) (sym (at-fewest n k F))

@@ -10,9 +10,9 @@ use lib.Seq.{take-all}
 use borrow.Author.Tests.{eq-eqb, ne-eqb}
 use Rattle.io.specs.Counts.{Counts}
 use Rattle.integers.specs.Table.{over}
+use Rattle.integers.proofs.Overwriting.{take-over}
 use Rattle.integers.proofs.Tables.{length-table}
 use Rattle.sheet_bytes.specs.Program.{input-limit, word-from, words-of, refusal-line, answered, output-bytes}
-use Rattle.sheet_bytes.proofs.Answers.{take-over}
 
 -- the whole words of some bytes are one for each four
 length-words : (bytes : List ℕ) → length (words-of bytes) ≡ length bytes / 4

@@ -1,4 +1,4 @@
--- Laws of this crate.
+-- The laws that the proofs of the functions cite.
 pub mod Answers
 pub mod Decimals
 pub mod Inputs

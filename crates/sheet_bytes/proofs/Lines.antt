@@ -15,8 +15,8 @@ pub lent : (part xs ys : List ℕ) (at k : ℕ) → at + k ≡ length xs → len
 lent part xs ys at k s h e = record {
   end = refl;
   size =
-      let same : length ys ≡ length (take k (drop at xs)) =
-      rw e (length-over part (take k (drop at xs)) (simp (length-take, length-drop) (omega arith))) in
+      let m = take k (drop at xs) in
+      let same : length ys ≡ length m = rw e (length-over part m (simp (length-take, length-drop) (omega arith))) in
       simp (length-append, length-take, length-drop) (omega (arith, simp (length-take, length-drop) at same));
   more = λ p l o z f. rw (e, f) (over-lent p part l at k o h (omega arith));
 }

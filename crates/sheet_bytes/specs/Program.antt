@@ -33,9 +33,13 @@ output-limit = 4 * words-limit
 abbrev pub byte-at : List ℕ → ℕ → ℕ
 byte-at bytes i = getD bytes i 0
 
+-- the word of four bytes
+abbrev pub word-of : ℕ → ℕ → ℕ → ℕ → ℕ
+word-of a b c d = 256 ^ 3 * a + 256 ^ 2 * b + 256 * c + d
+
 -- the word of the four bytes from index i on
 unfoldable pub word-from : List ℕ → ℕ → ℕ
-word-from bytes i = 256 ^ 3 * byte-at bytes i + 256 ^ 2 * byte-at bytes (i + 1) + 256 * byte-at bytes (i + 2) + byte-at bytes (i + 3)
+word-from bytes i = word-of (byte-at bytes i) (byte-at bytes (i + 1)) (byte-at bytes (i + 2)) (byte-at bytes (i + 3))
 
 -- the whole words of some bytes
 unfoldable pub words-of : List ℕ → List ℕ
@@ -50,9 +54,9 @@ bytes-of words = table (4 * length words) (λ i. byte-of (word-at words (i / 4))
 
 -- one line: "refused ", the number, " at ", the place, newline, in decimal; text is in ASCII
 
--- n with the fewest digits that hold it; twenty hold every number of 64 bits
+-- n in the fewest digits that hold it, at least one: k + 1 digits, for the lowest k with n < 10^(k+1)
 unfoldable pub decimal : ℕ → List ℕ
-decimal n = digits 10 (suc (first 19 (λ k. ltb n (10 ^ suc k)))) n
+decimal n = digits 10 (suc (first n (λ k. ltb n (10 ^ suc k)))) n
 
 abbrev pub refused-text : List ℕ
 refused-text = 114 ∷ 101 ∷ 102 ∷ 117 ∷ 115 ∷ 101 ∷ 100 ∷ 32 ∷ []

@@ -26,16 +26,19 @@ const WORDS_LIMIT: usize = 8194;
 
 pub const OUTPUT_LIMIT: usize = 32776;
 
+// The word of four bytes, of which a is the most significant.
+fn word_of(a: u8, b: u8, c: u8, d: u8) -> u32
+    ensures { λ r. ⌜ r ≡ program.word-of a b c d ⌝ }
+{
+    16777216 * (a as u32) + 65536 * (b as u32) + 256 * (c as u32) + d as u32
+}
+
 // The word of the four bytes from index i on.
 fn word_from(bytes: &[u8], i: usize) -> u32
     requires { ⌜ i + 4 ≤ length (now bytes) ⌝ }
     ensures { λ r. ⌜ r ≡ program.word-from (now (bytes .entry)) i ⌝ }
 {
-    let a = bytes[i] as u32;
-    let b = bytes[i + 1] as u32;
-    let c = bytes[i + 2] as u32;
-    let d = bytes[i + 3] as u32;
-    16777216 * a + 65536 * b + 256 * c + d
+    word_of(bytes[i], bytes[i + 1], bytes[i + 2], bytes[i + 3])
 }
 
 // The whole words of some bytes, at the start of `words`.

@@ -2,8 +2,8 @@
 -- Assumes nothing.
 use mathlib.Core.Path.{sym}
 use native.Mathlib.Omega.{arith}
-use borrow.Author.Needs.{needs}
 use lib.ListN.{replicate}
+use borrow.Author.Needs.{needs}
 use Rattle.sheet_bytes.proofs.Inputs.{count, bytes-over, loaded-count, whole-words, promised}
 use Rattle.sheet_bytes.proofs.convert.Statement.{statement}
 use Rattle.sheet_bytes.proofs.convert.Tie as tie
@@ -48,10 +48,8 @@ returns-2 c =
     let load = c .before .before .before .before in
     let read = load .before .before .before .before in
     let args = read .before .before .args in
-    let is =
-    whole-words (args .input .now) (read .least .ensures) (load .load .last .1 .0) (replicate 8195 0) (load .load .ensures)
-    (load .before .before .before .if1 .left) in
-    promised (args .output .now) is (c .answer-words .ensures .0) (c .answer-words .ensures .1)
+    let loaded = whole-words (args .input .now) (read .least .ensures) (load .load .last .1 .0) (replicate 8195 0) (load .load .ensures) in
+    promised (args .output .now) (loaded (load .before .before .before .if1 .left)) (c .answer-words .ensures .0) (c .answer-words .ensures .1)
 
 pub convert-spec : {M : Type 1} → statement M
 convert-spec =

@@ -2,8 +2,8 @@
 -- Assumes nothing.
 use Prim.Native.Nat.{_-_}
 use native.Mathlib.Omega.{arith}
-use borrow.Author.Needs.{needs}
 use lib.ListN.{length}
+use borrow.Author.Needs.{needs}
 use Rattle.sheet_bytes.proofs.Lines.{lent}
 use Rattle.sheet_bytes.proofs.put.Statement.{statement}
 use Rattle.sheet_bytes.proofs.put.Tie as tie

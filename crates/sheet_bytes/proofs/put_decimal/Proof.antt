@@ -30,7 +30,7 @@ returns c =
     let made = c .before .before .before .before .before .decimal in
     let start = c .before .before .before .before .before .before .before .before in
     let few = twenty _ (made .result) (omega arith) (made .ensures .1 .0) in
-    (rw (made .ensures .1 .1 ∙ fewest (start .args .n) (made .result) few (made .ensures .1 .0)) at written, omega (arith, written .end))
+    (rw (made .ensures .1 .1 ∙ fewest (start .args .n) (made .result) (made .ensures .1 .0)) at written, omega (arith, written .end))
 
 pub put-decimal-spec : {M : Type 1} → statement M
 put-decimal-spec =

@@ -1,9 +1,9 @@
 -- `store` meets its contract: the loop writes the bytes one by one.
 -- Assumes nothing.
 use mathlib.Core.Path.{refl}
-use Prim.Native.Nat.{_-_, _*_, _/_, _%_}
+use Prim.Native.Nat.{_-_, _/_, _%_}
 use native.Mathlib.Omega.{arith}
-use lib.ListN.{length, getD}
+use lib.ListN.{getD}
 use Rattle.integers.proofs.Overwriting.{Begun, begun-none, begun-more, begun-all, begun-length}
 use Rattle.sheet_bytes.specs.Program.{byte-of, bytes-of}
 use Rattle.sheet_bytes.proofs.store.Statement.{statement}
