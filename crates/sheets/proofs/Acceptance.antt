@@ -49,7 +49,7 @@ module _ (words : List ℕ) where
       go i h (yes z) t = rw z
       go i h (no z) (yes e) =
           let at : i ≡ last = omega arith in
-          cause-end sample-sheet words i (omega arith) e ∙ rw at (means-end (blocks words) (word-at words last) (S .end-kind) (S .end-count))
+          cause-end sample-sheet words i (omega arith) e ∙ rw at (means-end (blocks words) (word-at words last) (S .of-end-kind) (S .end-count))
       go i h (no z) (no t) =
           let p : 0 < i = omega arith in
           let q : suc i < length words = omega arith in
@@ -71,7 +71,7 @@ module _ (words : List ℕ) where
         count = c;
         sample-kind = λ i p q. no-cause (word-at words i) (sample i p q) .0;
         sample-range = λ i p q. no-cause (word-at words i) (sample i p q) .1;
-        end-kind = end .0;
+        of-end-kind = end .0;
         end-count = end .1;
       }
 

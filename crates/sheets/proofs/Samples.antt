@@ -3,7 +3,7 @@
 use mathlib.Core.Path.{_≡_, refl, sym, ap, _∙_, subst}
 use mathlib.Core.Bool.{Bool, true, false, cond, not, _||_}
 use mathlib.Core.List.{List}
-use Prim.Native.Nat.{ℕ, _+_, _*_, _<_}
+use Prim.Native.Nat.{ℕ, _+_, _-_, _*_, _<_}
 use native.Mathlib.Nat.{lt-of-le-of-lt}
 use native.Mathlib.Omega.{arith}
 use lib.Dec.{T, eqb, lit<}
@@ -12,7 +12,7 @@ use lib.ListN.{length}
 use lib.Signed.{ltZ}
 use borrow.Author.Tests.{eq-eqb, eqb-true, not-false}
 use Rattle.integers.proofs.Tables.{getD-table, length-table}
-use Rattle.dct.specs.Limits.{places, components-size, in-range}
+use Rattle.dct.specs.Limits.{places, components-size, in-range, sample-limit}
 use Rattle.transform.specs.Forward.{AllInRange, elements-of, forward-elements}
 use Rattle.transform.proofs.Range.{too-low, not-too-low}
 use Rattle.transform.proofs.Refusals.{accepts, accepted-leaves}
@@ -25,32 +25,34 @@ use Rattle.sheet_checks.specs.Check.{word-at, blocks, body-cause}
 use Rattle.sheets.specs.Preconditions.{Checked, Fit}
 use Rattle.sheets.specs.Sheet.{sample-sheet, block, block-coefficients}
 
--- a sample word without a fault is of kind 2 and holds a sample in range
+-- a sample word without a fault is of its kind and holds a sample in range
 
-pub no-cause : (w : ℕ) → body-cause sample-sheet w ≡ 0 → (kind w ≡ 2) × (in-range (value (payload w)) ≡ true)
-unfolding body-cause
-no-cause w e = go (eqb (kind w) 2) (ltZ v (negsuc 2047)) (ltZ (pos 2047) v) refl refl refl e
-  where
-    v : ℤ
-    v = value (payload w)
+abbrev M : ℕ
+M = sample-limit - 1
 
-    go : (k low high : Bool) → eqb (kind w) 2 ≡ k → ltZ v (negsuc 2047) ≡ low → ltZ (pos 2047) v ≡ high
-        → _≡_ {A = ℕ} (cond k (cond (low || high) 2 0) 7) 0 → (kind w ≡ 2) × (in-range v ≡ true)
-    go true false false k l h e = (eqb-true (kind w) 2 k, not-false (in-range v) (sym (not-too-low 2047 v l) ∙ h))
-    go true false true k l h e = absurd (omega arith)
-    go true true high k l h e = absurd (omega arith)
-    go false low high k l h e = absurd (omega arith)
+module _ (w : ℕ) where
+  abbrev v : ℤ
+  v = value (payload w)
 
-pub no-fault : (w : ℕ) → kind w ≡ 2 → in-range (value (payload w)) ≡ true → body-cause sample-sheet w ≡ 0
-unfolding body-cause
-no-fault w k r = go (ltZ v (negsuc 2047)) refl
-  where
-    v : ℤ
-    v = value (payload w)
+  pub no-cause : body-cause sample-sheet w ≡ 0 → (kind w ≡ sample-sheet .body) × (in-range v ≡ true)
+  unfolding body-cause
+  no-cause e = go (eqb (kind w) (sample-sheet .body)) (ltZ v (negsuc M)) (ltZ (pos M) v) refl refl refl e
+    where
+      go : (k low high : Bool) → eqb (kind w) (sample-sheet .body) ≡ k → ltZ v (negsuc M) ≡ low → ltZ (pos M) v ≡ high
+          → _≡_ {A = ℕ} (cond k (cond (low || high) 2 0) 7) 0 → (kind w ≡ sample-sheet .body) × (in-range v ≡ true)
+      go true false false k l h e = (eqb-true (kind w) (sample-sheet .body) k, not-false (in-range v) (sym (not-too-low M v l) ∙ h))
+      go true false true k l h e = absurd (omega arith)
+      go true true high k l h e = absurd (omega arith)
+      go false low high k l h e = absurd (omega arith)
 
-    go : (low : Bool) → ltZ v (negsuc 2047) ≡ low → _≡_ {A = ℕ} (cond (eqb (kind w) 2) (cond (ltZ v (negsuc 2047) || ltZ (pos 2047) v) 2 0) 7) 0
-    go true l = absurd (subst T (too-low 2047 v l ∙ ap not r) tt)
-    go false l = rw (eq-eqb (kind w) 2 k, l, not-too-low 2047 v l ∙ ap not r)
+  pub no-fault : kind w ≡ sample-sheet .body → in-range v ≡ true → body-cause sample-sheet w ≡ 0
+  unfolding body-cause
+  no-fault k r = go (ltZ v (negsuc M)) refl
+    where
+      go : (low : Bool) → ltZ v (negsuc M) ≡ low
+          → _≡_ {A = ℕ} (cond (eqb (kind w) (sample-sheet .body)) (cond (ltZ v (negsuc M) || ltZ (pos M) v) 2 0) 7) 0
+      go true l = absurd (subst T (too-low M v l ∙ ap not r) tt)
+      go false l = rw (eq-eqb (kind w) (sample-sheet .body) k, l, not-too-low M v l ∙ ap not r)
 
 module _ {words : List ℕ} {b s o : ℕ} (C : Checked words b s o) (k : ℕ) (h : k < blocks words) where
   -- the words of block k

@@ -14,7 +14,7 @@ use Rattle.rounding.specs.Rounding.{coefficients-of}
 use Rattle.rounding.specs.Tables.{width}
 use Rattle.words.specs.Word.{across, down, kind, payload, payload-of, value, word}
 use Rattle.sheet_checks.specs.declared.Format.{Format}
-use Rattle.sheet_checks.specs.Check.{word-at, blocks, shape, contents}
+use Rattle.sheet_checks.specs.Check.{word-at, blocks, blocks-limit, size-of, end-kind, shape, contents}
 
 -- a sample sheet: heads of kind 1, samples of kind 2, and cause 2 for one that is out of range
 abbrev pub sample-sheet : Format
@@ -24,14 +24,14 @@ sample-sheet = record { head = 1; body = 2; lowest = negℤ (pos sample-limit); 
 -- range, and the end word
 pub record SampleSheet (words : List ℕ) : Type 0 where
   pub some-words : 0 < length words
-  pub head-kind : kind (word-at words 0) ≡ 1
+  pub head-kind : kind (word-at words 0) ≡ sample-sheet .head
   pub some-across : 1 ≤ across (word-at words 0)
   pub some-down : 1 ≤ down (word-at words 0)
-  pub few-blocks : blocks words ≤ 128
-  pub count : length words ≡ 2 + 64 * blocks words
-  pub sample-kind : (i : ℕ) → 0 < i → suc i < length words → kind (word-at words i) ≡ 2
+  pub few-blocks : blocks words ≤ blocks-limit
+  pub count : length words ≡ size-of (blocks words)
+  pub sample-kind : (i : ℕ) → 0 < i → suc i < length words → kind (word-at words i) ≡ sample-sheet .body
   pub sample-range : (i : ℕ) → 0 < i → suc i < length words → in-range (value (payload (word-at words i))) ≡ true
-  pub end-kind : kind (word-at words (length words - 1)) ≡ 15
+  pub of-end-kind : kind (word-at words (length words - 1)) ≡ end-kind
   pub end-count : payload (word-at words (length words - 1)) ≡ blocks words
 
 -- the samples of block k: "64 words each, row by row", after the head
