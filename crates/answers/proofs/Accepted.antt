@@ -75,6 +75,12 @@ cause-accepted size cause next h = go (ltb at size) refl h
 pub lowest-names : (size : ℕ) (faulty : ℕ → Bool) → first size faulty < size → (faulty (first size faulty) ≡ true) × ((i : ℕ) → i < first size faulty → faulty i ≡ false)
 lowest-names size faulty h = (at-first size faulty h, before-first size faulty)
 
+pub cause-names : (size : ℕ) (cause : ℕ → ℕ) → first size (λ i. ltb 0 (cause i)) < size
+    → (0 < cause (first size (λ i. ltb 0 (cause i)))) × ((i : ℕ) → i < first size (λ i. ltb 0 (cause i)) → cause i ≡ 0)
+cause-names size cause h =
+    let (has, none) = lowest-names size (λ i. ltb 0 (cause i)) h in
+    (ltb-true 0 (cause (first size (λ i. ltb 0 (cause i)))) has, λ i l. let small = ltb-false 0 (cause i) (none i l) in omega arith)
+
 -- what it leaves
 
 pub accepted-written : {A : Type 0} (r : Returned) (result was : A) → T (accepted r) → written r result was ≡ result

@@ -4,24 +4,22 @@ use Prim.Native.Nat.{ℕ}
 use lib.Dec.{ltb, eqb}
 use Rattle.integers.specs.Search.{first}
 use Rattle.answers.specs.declared.Answer.{Answer}
-use Rattle.answers.specs.declared.Answer.the-variants.{Accepted, Lengths, Sample, Width, Magnitudes, NoBlock, Words, Head, Count, Kind, End}
+use Rattle.answers.specs.declared.Answer.the-variants.{Accepted, Lengths, Sample, Width, Magnitudes, NoBlock, Head, Words, End}
 
 pub record Returned : Type 0 where
   pub number : ℕ
   pub place : ℕ
 
--- 01's number and place for each case
+-- 01's number and place for each case; no two answers have both the same (`only-answer`), so that a contract that fixes them fixes the answer
 abbrev pub returned : Answer → Returned
-returned Accepted = record { number = 0; place = 0 }
+returned (Accepted n) = record { number = 0; place = n }
 returned Lengths = record { number = 1; place = 0 }
 returned (Sample i) = record { number = 2; place = i }
 returned Width = record { number = 3; place = 0 }
 returned (Magnitudes p) = record { number = 4; place = p }
 returned NoBlock = record { number = 5; place = 0 }
-returned (Words n) = record { number = 0; place = n }
 returned Head = record { number = 6; place = 0 }
-returned (Count n) = record { number = 7; place = n }
-returned (Kind i) = record { number = 7; place = i }
+returned (Words n) = record { number = 7; place = n }
 returned (End i) = record { number = 8; place = i }
 
 -- the order of causes: each is asked before the next
@@ -44,11 +42,11 @@ lowest-cause size cause next = lowest size (λ i. ltb 0 (cause i)) (cause (first
 
 -- no cause is left: "An accepted call returns 0 and place 0, a sheet 0 and the words written"
 
-abbrev pub accept : Returned
-accept = record { number = 0; place = 0 }
-
 abbrev pub accept-words : ℕ → Returned
 accept-words n = record { number = 0; place = n }
+
+abbrev pub accept : Returned
+accept = accept-words 0
 
 -- the call is accepted
 abbrev pub accepted : Returned → Bool

@@ -3,8 +3,8 @@ ghost use mathlib.Core.Path.{_≡_};
 ghost use Rattle.answers.specs.Answer.{returned};
 
 pub enum Answer {
-    // The call did its work.
-    Accepted,
+    // The call did its work: a sheet in this many words, every other job with 0.
+    Accepted(usize),
     // A buffer does not have the length that the job asks for.
     Lengths,
     // The sample at this index is out of range.
@@ -15,14 +15,10 @@ pub enum Answer {
     Magnitudes(usize),
     // No block in range has these elements.
     NoBlock,
-    // The call did its work, and wrote this many words.
-    Words(usize),
     // A sheet does not begin with a head whose sizes are allowed.
     Head,
-    // A sheet has this many words, and not as many as its sizes ask for.
-    Count(usize),
-    // The word at this index is of another kind than its place needs.
-    Kind(usize),
+    // A sheet has this many words, and not as many as its sizes ask for; or the word at this index is of another kind than its place needs.
+    Words(usize),
     // The end word, at this index, does not hold the number of blocks.
     End(usize),
 }
@@ -32,16 +28,14 @@ pub fn number(a: Answer) -> u32
     ensures { λ r. ⌜ r ≡ returned a .number ⌝ }
 {
     match a {
-        Answer::Accepted => 0,
+        Answer::Accepted(_) => 0,
         Answer::Lengths => 1,
         Answer::Sample(_) => 2,
         Answer::Width => 3,
         Answer::Magnitudes(_) => 4,
         Answer::NoBlock => 5,
-        Answer::Words(_) => 0,
         Answer::Head => 6,
-        Answer::Count(_) => 7,
-        Answer::Kind(_) => 7,
+        Answer::Words(_) => 7,
         Answer::End(_) => 8,
     }
 }
@@ -51,16 +45,14 @@ pub fn place(a: Answer) -> usize
     ensures { λ r. ⌜ r ≡ returned a .place ⌝ }
 {
     match a {
-        Answer::Accepted => 0,
+        Answer::Accepted(n) => n,
         Answer::Lengths => 0,
         Answer::Sample(i) => i,
         Answer::Width => 0,
         Answer::Magnitudes(p) => p,
         Answer::NoBlock => 0,
-        Answer::Words(n) => n,
         Answer::Head => 0,
-        Answer::Count(n) => n,
-        Answer::Kind(i) => i,
+        Answer::Words(n) => n,
         Answer::End(i) => i,
     }
 }

@@ -260,5 +260,5 @@ pub fn back(elements: &[i32], samples: &mut [i32]) -> Answer
         return Answer::NoBlock;
     }
     store(block, samples);
-    Answer::Accepted
+    Answer::Accepted(0)
 }

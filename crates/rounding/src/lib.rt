@@ -145,5 +145,5 @@ pub fn round(elements: &[i32], b: u32, coefficients: &mut [i32]) -> Answer
         return Answer::Magnitudes(p);
     }
     fill(elements, b, coefficients);
-    Answer::Accepted
+    Answer::Accepted(0)
 }

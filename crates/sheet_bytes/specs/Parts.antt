@@ -5,7 +5,7 @@ use Prim.Native.Nat.{ℕ, _+_}
 use lib.ListN.{length}
 use Rattle.integers.specs.Table.{over}
 
--- a part was written from index `at` on, and ends at r: where p stood over the start of l and ended there, p and the part do now
+-- a part was written from index `at` on, and ends at r. If p was written over the start of l before, and ends at `at`, then p and the part are now
 pub record Continued (part : List ℕ) (at : ℕ) (before after : List ℕ) (r : ℕ) : Type 0 where
   pub end : r ≡ at + length part
   pub size : length after ≡ length before

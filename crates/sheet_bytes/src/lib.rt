@@ -148,7 +148,7 @@ fn answer_words(words: &[u32], output: &mut [u8]) -> usize
 }
 
 // The bytes that the program writes for `input`, at the start of `output`, and how many there are.
-pub fn convert(input: &[u8], output: &mut [u8; 32776]) -> usize
+pub fn convert(input: &[u8], output: &mut [u8; OUTPUT_LIMIT]) -> usize
     ensures { λ r. ⌜ r ≡ length (output-bytes (take input-limit (now (input .entry)))) ⌝ }
     ensures { λ r. ⌜ now (output .exit) ≡ over (output-bytes (take input-limit (now (input .entry)))) (now (output .entry)) ⌝ }
     ensures { λ r. ⌜ Counts r (now (output .exit)) ⌝ }

@@ -15,9 +15,9 @@ use mir.Val.{SFits, ofZ, toZ}
 use mir.ValLaws.{toZ-ofZ}
 use borrow.Author.Tests.{eq-eqb, ne-eqb, lt-ltb, le-ltb}
 use Rattle.integers.proofs.Search.{Passed, passed-none, passed-more, first-at, first-none}
-use Rattle.words.specs.Word.{kind, payload, value}
+use Rattle.words.specs.Word.{end-kind, kind, payload, value}
 use Rattle.sheet_checks.specs.declared.Format.{Format}
-use Rattle.sheet_checks.specs.Check.{Searched, names-word, end-kind, word-at, blocks, body-cause, end-cause, cause-at, contents}
+use Rattle.sheet_checks.specs.Check.{Searched, names-word, word-at, blocks, body-cause, end-cause, cause-at, contents}
 
 -- the cause of a word of the body, by the code's tests
 module _ (f : Format) (w : ℕ) where

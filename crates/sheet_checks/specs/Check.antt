@@ -8,13 +8,9 @@ use lib.Dec.{T, eqb, ltb, leb}
 use lib.ListN.{length, getD}
 use lib.Signed.{ltZ}
 use Rattle.dct.specs.Limits.{places}
-use Rattle.words.specs.Word.{kind, payload, value, across, down}
+use Rattle.words.specs.Word.{across, down, end-kind, kind, payload, value}
 use Rattle.answers.specs.Answer.{Returned, unless, unless-at, lowest-cause}
 use Rattle.sheet_checks.specs.declared.Format.{Format}
-
--- the kind of an end word
-abbrev pub end-kind : ℕ
-end-kind = 15
 
 -- word i of a sheet
 abbrev pub word-at : List ℕ → ℕ → ℕ

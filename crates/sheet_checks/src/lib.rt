@@ -1,5 +1,5 @@
 // The check of a sheet (01, "Sheets"): does it begin with a head of the right kind whose sizes are allowed, and which of its other words is
-// the first that has a fault? The kinds and the range of values are parameters, so that sheets of samples and of coefficients have one check.
+// the first that has a fault? The kinds and the range of values are parameters, so that every kind of sheet can have the same check.
 ghost use mathlib.Core.Path.{_≡_};
 ghost use mathlib.Core.Bool.{_||_};
 ghost use Prim.Native.Nat.{_<_};
@@ -7,6 +7,7 @@ ghost use lib.ListN.{length};
 ghost use lib.Signed.{ltZ};
 ghost use Rattle.sheet_checks.specs.Check as check;
 ghost use Rattle.sheet_checks.specs.Check.{Searched};
+use words::END;
 use words::kind;
 use words::payload;
 use words::value;
@@ -23,13 +24,11 @@ pub struct Format {
     pub refusal: u32,
 }
 
-// A faulty word: 01's number, and its index. The number is 0 where no word is faulty.
+// A faulty word: 01's number, and its index. Where no word is faulty the number is 0, and the index says nothing.
 pub struct Fault {
     pub cause: u32,
     pub place: usize,
 }
-
-const END_KIND: u32 = 15;
 
 const BLOCKS_LIMIT: u32 = 128;
 
@@ -78,7 +77,7 @@ fn body_cause(f: Format, w: u32) -> u32
 fn end_cause(n: usize, w: u32) -> u32
     ensures { λ r. ⌜ r ≡ check.end-cause n w ⌝ }
 {
-    if kind(w) != END_KIND {
+    if kind(w) != END {
         return 7;
     }
     if payload(w) as usize != n {

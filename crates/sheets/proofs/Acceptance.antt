@@ -16,7 +16,7 @@ use Rattle.words.specs.Word.{kind, payload}
 use Rattle.sheet_checks.specs.Check.{word-at, blocks, size-of, has-head, body-cause, end-cause, cause-at}
 use Rattle.sheet_checks.proofs.Faults.{cause-body, cause-end}
 use Rattle.sheet_checks.proofs.Heads.{head-means, means-head}
-use Rattle.sheets.specs.Sheet.{SampleSheet, sample-sheet, sheet-returned}
+use Rattle.sheets.specs.Sheet.{SampleSheet, sample-format, sheet-returned}
 use Rattle.sheets.proofs.Causes.{accepted-no-cause, no-cause-accepted}
 use Rattle.sheets.proofs.Samples.{no-cause, no-fault}
 
@@ -41,35 +41,35 @@ module _ (words : List ℕ) where
 
   -- no word of a sample sheet has a fault, and a sheet of which that holds is one
 
-  no-faults : SampleSheet words → (i : ℕ) → i < length words → cause-at sample-sheet words i ≡ 0
+  no-faults : SampleSheet words → (i : ℕ) → i < length words → cause-at sample-format words i ≡ 0
   unfolding cause-at
   no-faults S i h = go i h (ℕ-discrete i 0) (ℕ-discrete (suc i) (length words))
     where
-      go : (i : ℕ) → i < length words → Dec (i ≡ 0) → Dec (suc i ≡ length words) → cause-at sample-sheet words i ≡ 0
+      go : (i : ℕ) → i < length words → Dec (i ≡ 0) → Dec (suc i ≡ length words) → cause-at sample-format words i ≡ 0
       go i h (yes z) t = rw z
       go i h (no z) (yes e) =
           let at : i ≡ last = omega arith in
-          cause-end sample-sheet words i (omega arith) e ∙ rw at (means-end (blocks words) (word-at words last) (S .of-end-kind) (S .end-count))
+          cause-end sample-format words i (omega arith) e ∙ rw at (means-end (blocks words) (word-at words last) (S .of-end-kind) (S .end-count))
       go i h (no z) (no t) =
           let p : 0 < i = omega arith in
           let q : suc i < length words = omega arith in
-          cause-body sample-sheet words i p q ∙ no-fault (word-at words i) (S .sample-kind i p q) (S .sample-range i p q)
+          cause-body sample-format words i p q ∙ no-fault (word-at words i) (S .of-sample-kind i p q) (S .sample-range i p q)
 
-  sheet-of : T (has-head 1 words) → length words ≡ size-of (blocks words) → ((i : ℕ) → i < length words → cause-at sample-sheet words i ≡ 0)
+  sheet-of : T (has-head 1 words) → length words ≡ size-of (blocks words) → ((i : ℕ) → i < length words → cause-at sample-format words i ≡ 0)
       → SampleSheet words
   sheet-of h c none =
       let (some, k, a, d, few) = head-means 1 words h in
-      let sample : (i : ℕ) → 0 < i → suc i < length words → body-cause sample-sheet (word-at words i) ≡ 0 =
-      λ i p q. sym (cause-body sample-sheet words i p q) ∙ none i (omega arith) in
-      let end = end-means (blocks words) (word-at words last) (sym (cause-end sample-sheet words last (omega arith) (omega arith)) ∙ none last (omega arith)) in
+      let sample : (i : ℕ) → 0 < i → suc i < length words → body-cause sample-format (word-at words i) ≡ 0 =
+      λ i p q. sym (cause-body sample-format words i p q) ∙ none i (omega arith) in
+      let end = end-means (blocks words) (word-at words last) (sym (cause-end sample-format words last (omega arith) (omega arith)) ∙ none last (omega arith)) in
       record {
         some-words = some;
-        head-kind = k;
+        of-head-kind = k;
         some-across = a;
         some-down = d;
         few-blocks = few;
         count = c;
-        sample-kind = λ i p q. no-cause (word-at words i) (sample i p q) .0;
+        of-sample-kind = λ i p q. no-cause (word-at words i) (sample i p q) .0;
         sample-range = λ i p q. no-cause (word-at words i) (sample i p q) .1;
         of-end-kind = end .0;
         end-count = end .1;
@@ -80,7 +80,7 @@ module _ (words : List ℕ) (b s o : ℕ) where
   accepts w S e l =
       no-cause-accepted words b s o (record {
         at-width = w;
-        head = means-head 1 words (S .some-words) (S .head-kind) (S .some-across) (S .some-down) (S .few-blocks);
+        head = means-head 1 words (S .some-words) (S .of-head-kind) (S .some-across) (S .some-down) (S .few-blocks);
         count = S .count;
         scratch-size = e;
         output-size = l;

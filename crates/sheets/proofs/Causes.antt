@@ -21,7 +21,7 @@ use Rattle.sheet_checks.specs.Check.{Searched, word-at, blocks, size-of, has-he
 use Rattle.sheet_checks.proofs.Faults.{cause-body}
 use Rattle.sheet_checks.proofs.Heads.{some-blocks, no-head, a-head}
 use Rattle.sheets.specs.Preconditions.{Checked}
-use Rattle.sheets.specs.Sheet.{sample-sheet, block, coefficient-sheet, sheet-output, sheet-returned, sheet-scratch}
+use Rattle.sheets.specs.Sheet.{sample-format, block, coefficient-sheet, sheet-output, sheet-returned, sheet-scratch}
 use Rattle.sheets.proofs.Samples.{no-cause}
 
 module _ (words : List ℕ) (b s o : ℕ) where
@@ -66,7 +66,7 @@ module _ (words : List ℕ) (b s o : ℕ) where
             short-output l = rw (at-width, head, size-right, eq-eqb s components-size u, lt-leb (length words) o l)
 
             -- past all of these, the words are searched
-            module _ (l : length words ≤ o) {cause place : ℕ} (S : Searched sample-sheet words cause place) where
+            module _ (l : length words ≤ o) {cause place : ℕ} (S : Searched sample-format words cause place) where
               searched : sheet-returned words b s o ≡ unless-at place (eqb cause 0) cause (accept-words (length words))
               unfolding sheet-returned shape
               searched = rw (at-width, head, size-right, eq-eqb s components-size u, le-leb (length words) o l) (S .is (accept-words (length words)))
@@ -84,25 +84,25 @@ pub record NoCause (words : List ℕ) (b s o : ℕ) : Type 0 where
   pub count : length words ≡ size-of (blocks words)
   pub scratch-size : s ≡ components-size
   pub output-size : length words ≤ o
-  pub no-fault : (i : ℕ) → i < length words → cause-at sample-sheet words i ≡ 0
+  pub no-fault : (i : ℕ) → i < length words → cause-at sample-format words i ≡ 0
 
 module _ (words : List ℕ) (b s o : ℕ) where
   abbrev room : Bool
   room = eqb s components-size && leb (length words) o
 
   abbrev past-shape : Returned
-  past-shape = unless room 1 (contents sample-sheet words (accept-words (length words)))
+  past-shape = unless room 1 (contents sample-format words (accept-words (length words)))
 
   -- an accepted call had no cause
   pub accepted-no-cause : T (accepted (sheet-returned words b s o)) → NoCause words b s o
   unfolding sheet-returned shape contents
   accepted-no-cause a =
       let counted = eqb (length words) (size-of (blocks words)) in
-      let (w, past-width) = unless-accepted (width b) 2 (shape sample-sheet words past-shape) a in
+      let (w, past-width) = unless-accepted (width b) 2 (shape sample-format words past-shape) a in
       let (h, past-head) = unless-accepted (has-head 1 words) 5 (unless-at (length words) counted 7 past-shape) past-width in
       let (c, past-count) = unless-at-accepted (length words) counted 6 past-shape past-head in
-      let (r, past-room) = unless-accepted room 0 (contents sample-sheet words (accept-words (length words))) past-count in
-      let (none, done) = cause-accepted (length words) (cause-at sample-sheet words) (accept-words (length words)) past-room in
+      let (r, past-room) = unless-accepted room 0 (contents sample-format words (accept-words (length words))) past-count in
+      let (none, done) = cause-accepted (length words) (cause-at sample-format words) (accept-words (length words)) past-room in
       let (t, l) = and-yes (eqb s components-size) (leb (length words) o) r in
       record {
         at-width = w;
@@ -124,7 +124,7 @@ module _ (words : List ℕ) (b s o : ℕ) where
         eq-eqb s components-size (N .scratch-size),
         le-leb (length words) o (N .output-size),
       )
-      (cause-passes (length words) (cause-at sample-sheet words) (accept-words (length words)) (N .no-fault))
+      (cause-passes (length words) (cause-at sample-format words) (accept-words (length words)) (N .no-fault))
 
   pub accepted-checked : T (accepted (sheet-returned words b s o)) → Checked words b s o
   accepted-checked a =
@@ -133,7 +133,7 @@ module _ (words : List ℕ) (b s o : ℕ) where
         at-width = N .at-width;
         words-length = N .count;
         some-block = some-blocks 1 words (N .head);
-        samples-in-range = λ i p q. no-cause (word-at words i) (sym (cause-body sample-sheet words i p q) ∙ N .no-fault i (omega arith)) .1;
+        samples-in-range = λ i p q. no-cause (word-at words i) (sym (cause-body sample-format words i p q) ∙ N .no-fault i (omega arith)) .1;
         scratch-size = N .scratch-size;
         output-size = N .output-size;
       }

@@ -1,6 +1,7 @@
 -- What the definitions of the sheet job mean: which calls are accepted, and what an accepted one leaves, word by word.
 -- Assumes nothing.
 use mathlib.Core.Path.{_≡_, sym, ap, ap₂, _∙_}
+use mathlib.Core.Bool.{false}
 use mathlib.Core.List.{List}
 use Prim.Native.Nat.{ℕ, _+_, _-_, _*_, _≤_, _<_}
 use native.Mathlib.Omega.{arith}
@@ -10,12 +11,15 @@ use lib.ListN.{length, getD}
 use Rattle.integers.specs.Table.{table, over}
 use Rattle.integers.proofs.Overwriting.{getD-over, getD-beyond}
 use Rattle.integers.proofs.Tables.{getD-table, length-table, table-ext}
-use Rattle.dct.specs.Limits.{places}
+use Rattle.dct.specs.Limits.{distance-numerator, places}
+use Rattle.cuts.specs.Value.{Near}
+use Rattle.cuts.specs.Width.{distance}
+use Rattle.elements.specs.Buffer.{element-at}
 use Rattle.answers.specs.Answer.{accept-words, accepted}
 use Rattle.answers.proofs.Accepted.{accepted-written}
 use Rattle.transform.specs.Forward.{elements-of}
 use Rattle.accepted_sets.proofs.BlockSets.{block-set}
-use Rattle.rounding.specs.Rounding.{AllNear, coefficients-of}
+use Rattle.rounding.specs.Rounding.{coefficients-of}
 use Rattle.rounding.proofs.Causes.{all-near}
 use Rattle.words.specs.Word.{across, down, kind, payload, payload-of, value, word}
 use Rattle.words.proofs.Packing.{kind-word, payload-word, payload-below, payload-of-below, small-in-range, value-of-payload}
@@ -75,10 +79,13 @@ module _ (words : List ℕ) (b : ℕ) (scratch : List ℤ) (output : List ℕ) (
       let e : left-at (1 + places * k + p) ≡ word 3 (payload-of z) = word-left (1 + places * k + p) (omega arith) ∙ output-body b words k p l room in
       (rw e (kind-word 3 (payload-of z) below), rw (e, payload-word 3 (payload-of z) below) (value-of-payload z range))
 
-  -- and lies as near to half of the element as demand 3 asks
-  pub near-left : (k : ℕ) → k < blocks words → AllNear (elements-of (block words k)) b (block-coefficients b words k)
+  -- and that value lies as near to half of the element as demand 3 asks
+  pub near-left : (k p : ℕ) → k < blocks words → p < places
+      → Near (value (payload (left-at (1 + places * k + p)))) (element-at (elements-of (block words k)) p) (distance distance-numerator b)
   unfolding block-coefficients
-  near-left k h = all-near (elements-of (block words k)) b (block-set (block words k) (block-range checked k h)) (checked .at-width)
+  near-left k p h l =
+      rw (coefficient-left k p h l .1)
+      (all-near (elements-of (block words k)) b (block-set (block words k) (block-range checked k h)) (checked .at-width) .near p l)
 
   -- the same end word
   pub end-left : left-at (length words - 1) ≡ word-at words (length words - 1)
@@ -91,6 +98,12 @@ module _ (words : List ℕ) (b : ℕ) (scratch : List ℤ) (output : List ℕ) (
   pub beyond-left : (i : ℕ) → length words ≤ i → left-at i ≡ getD output i 0
   unfolding coefficient-sheet
   beyond-left i h = rw written-over (getD-beyond (table (length words) (output-word b words)) output 0 i (rw (length-table (length words) (output-word b words)) h))
+
+-- a refused call leaves both buffers as they were
+pub refused-leaves : (words : List ℕ) (b : ℕ) (scratch : List ℤ) (output : List ℕ) → accepted (sheet-returned words b (length scratch) (length output)) ≡ false
+    → (sheet-scratch words b scratch output ≡ scratch) × (sheet-output words b scratch output ≡ output)
+unfolding sheet-scratch sheet-output
+refused-leaves words b scratch output r = (rw r, rw r)
 
 same-block : (v w : List ℕ) (k : ℕ) → ((i : ℕ) → i < places → word-at v (1 + places * k + i) ≡ word-at w (1 + places * k + i)) → block v k ≡ block w k
 unfolding block

@@ -26,10 +26,10 @@ pub record Checked (words : List ℕ) (b scratch-length output-length : ℕ) : T
 pub record Fit (coefficients : List ℤ) : Type 0 where
   pub small : (i : ℕ) → i < places → natAbs (getD coefficients i (pos 0)) < value-limit
 
--- the output once its head and k blocks are written; before, it was l
+-- what the output holds once the head and k blocks are written over l
 abbrev pub after-blocks : ℕ → List ℕ → ℕ → List ℕ → List ℕ
 after-blocks b words k l = over (table (1 + places * k) (output-word b words)) l
 
--- the output went on from j blocks to k: whatever it was written over
+-- `was` is the output after j blocks and `left` after k, of one and the same output l before the call, whichever that is
 pub record Advanced (b : ℕ) (words : List ℕ) (j k : ℕ) (was left : List ℕ) : Type 0 where
   pub over-any : (l : List ℕ) → was ≡ after-blocks b words j l → left ≡ after-blocks b words k l

@@ -12,24 +12,25 @@ use Rattle.answers.specs.Answer.{Returned, unless, accept-words, written}
 use Rattle.transform.specs.Forward.{elements-of}
 use Rattle.rounding.specs.Rounding.{coefficients-of}
 use Rattle.rounding.specs.Tables.{width}
-use Rattle.words.specs.Word.{across, down, kind, payload, payload-of, value, word}
+use Rattle.words.specs.Word.{across, coefficient-head-kind, coefficient-kind, down, end-kind, kind, payload, payload-of, sample-head-kind, sample-kind, value, word}
 use Rattle.sheet_checks.specs.declared.Format.{Format}
-use Rattle.sheet_checks.specs.Check.{word-at, blocks, blocks-limit, size-of, end-kind, shape, contents}
+use Rattle.sheet_checks.specs.Check.{word-at, blocks, blocks-limit, size-of, shape, contents}
 
--- a sample sheet: heads of kind 1, samples of kind 2, and cause 2 for one that is out of range
-abbrev pub sample-sheet : Format
-sample-sheet = record { head = 1; body = 2; lowest = negℤ (pos sample-limit); highest = pos (sample-limit - 1); refusal = 2 }
+-- the format of a sample sheet: cause 2 refuses a sample that is out of range
+abbrev pub sample-format : Format
+sample-format =
+    record { head = sample-head-kind; body = sample-kind; lowest = negℤ (pos sample-limit); highest = pos (sample-limit - 1); refusal = 2 }
 
 -- a sample sheet as 01 describes it: the head, with its kind and its sizes, the count of its words, the samples, with their kind and their
 -- range, and the end word
 pub record SampleSheet (words : List ℕ) : Type 0 where
   pub some-words : 0 < length words
-  pub head-kind : kind (word-at words 0) ≡ sample-sheet .head
+  pub of-head-kind : kind (word-at words 0) ≡ sample-head-kind
   pub some-across : 1 ≤ across (word-at words 0)
   pub some-down : 1 ≤ down (word-at words 0)
   pub few-blocks : blocks words ≤ blocks-limit
   pub count : length words ≡ size-of (blocks words)
-  pub sample-kind : (i : ℕ) → 0 < i → suc i < length words → kind (word-at words i) ≡ sample-sheet .body
+  pub of-sample-kind : (i : ℕ) → 0 < i → suc i < length words → kind (word-at words i) ≡ sample-kind
   pub sample-range : (i : ℕ) → 0 < i → suc i < length words → in-range (value (payload (word-at words i))) ≡ true
   pub of-end-kind : kind (word-at words (length words - 1)) ≡ end-kind
   pub end-count : payload (word-at words (length words - 1)) ≡ blocks words
@@ -42,14 +43,14 @@ block words k = table places (λ i. value (payload (word-at words (1 + places * 
 unfoldable pub block-coefficients : ℕ → List ℕ → ℕ → List ℤ
 block-coefficients b words k = coefficients-of b (elements-of (block words k))
 
--- the word of coefficient i: kind 3
+-- the word of coefficient i
 abbrev pub coefficient-word : List ℤ → ℕ → ℕ
-coefficient-word coefficients i = word 3 (payload-of (getD coefficients i (pos 0)))
+coefficient-word coefficients i = word coefficient-kind (payload-of (getD coefficients i (pos 0)))
 
 -- word i of the output: "a head of kind 4 with the same sizes, then for each block 64 words of kind 3, [..], then the same end word"
 unfoldable pub output-word : ℕ → List ℕ → ℕ → ℕ
 output-word b words i =
-    cond (eqb i 0) (word 4 (payload (word-at words 0)))
+    cond (eqb i 0) (word coefficient-head-kind (payload (word-at words 0)))
     (cond (eqb (suc i) (length words)) (word-at words i)
     (coefficient-word (block-coefficients b words ((i - 1) / places)) ((i - 1) % places)))
 
@@ -61,9 +62,9 @@ coefficient-sheet b words = table (length words) (output-word b words)
 unfoldable pub sheet-returned : List ℕ → ℕ → ℕ → ℕ → Returned
 sheet-returned words b scratch-length output-length =
     unless (width b) 3
-    (shape sample-sheet words
+    (shape sample-format words
     (unless (eqb scratch-length components-size && leb (length words) output-length) 1
-    (contents sample-sheet words (accept-words (length words)))))
+    (contents sample-format words (accept-words (length words)))))
 
 -- the output after the call: "output beyond them is untouched"
 unfoldable pub sheet-output : List ℕ → ℕ → List ℤ → List ℕ → List ℕ

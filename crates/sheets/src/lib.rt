@@ -12,7 +12,7 @@ ghost use Rattle.dct.specs.Limits.{components-size, places};
 ghost use Rattle.answers.specs.Answer.{returned};
 ghost use Rattle.transform.specs.Forward.{AllInRange, elements-of};
 ghost use Rattle.rounding.specs.Tables.{width};
-ghost use Rattle.sheet_checks.specs.Check as check;
+ghost use Rattle.sheet_checks.specs.Check.{blocks, names-word};
 ghost use Rattle.sheets.specs.Preconditions.{Advanced, Checked, Fit};
 ghost use Rattle.sheets.specs.Sheet as sheets;
 ghost use Rattle.sheets.specs.Sheet.{sheet-output, sheet-returned, sheet-scratch};
@@ -29,6 +29,10 @@ use sheet_checks::first_fault;
 use transform::HIGHEST_SAMPLE;
 use transform::LOWEST_SAMPLE;
 use transform::forward;
+use words::COEFFICIENT;
+use words::COEFFICIENT_HEAD;
+use words::SAMPLE;
+use words::SAMPLE_HEAD;
 use words::payload;
 use words::value;
 use words::with_payload;
@@ -36,17 +40,12 @@ use words::with_value;
 
 // A sheet of samples.
 const SAMPLES: Format = Format {
-    head: 1,
-    body: 2,
+    head: SAMPLE_HEAD,
+    body: SAMPLE,
     lowest: LOWEST_SAMPLE,
     highest: HIGHEST_SAMPLE,
     refusal: 2,
 };
-
-// The kinds of the words of a coefficient sheet.
-const COEFFICIENT_HEAD: u32 = 4;
-
-const COEFFICIENT: u32 = 3;
 
 // How far a sheet has come: the blocks that are done.
 struct Progress {
@@ -105,7 +104,7 @@ fn next_block(
     output: &mut [u32],
 ) -> Progress
     requires { ⌜ Checked (now words) b (length (now scratch)) (length (now output)) ⌝ }
-    requires { ⌜ state .blocks < check.blocks (now words) ⌝ }
+    requires { ⌜ state .blocks < blocks (now words) ⌝ }
     ensures { λ r. ⌜ r .blocks ≡ state .blocks + 1 ⌝ }
     ensures { λ r. ⌜ now (scratch .exit) ≡ elements-of (sheets.block (now (words .entry)) (state .blocks)) ⌝ }
     ensures { λ r. ⌜ Advanced b (now (words .entry)) (state .blocks) (state .blocks + 1) (now (output .entry)) (now (output .exit)) ⌝ }
@@ -119,9 +118,10 @@ fn next_block(
 // Every block, one after the other.
 fn all_blocks(words: &[u32], b: u32, scratch: &mut [i32], output: &mut [u32])
     requires { ⌜ Checked (now words) b (length (now scratch)) (length (now output)) ⌝ }
-    ensures { λ r. ⌜ now (scratch .exit) ≡ elements-of (sheets.block (now (words .entry)) (check.blocks (now (words .entry)) - 1)) ⌝ }
-    ensures { λ r. ⌜ Advanced b (now (words .entry)) 0 (check.blocks (now (words .entry))) (now (output .entry)) (now (output .exit)) ⌝ }
+    ensures { λ r. ⌜ now (scratch .exit) ≡ elements-of (sheets.block (now (words .entry)) (blocks (now (words .entry)) - 1)) ⌝ }
+    ensures { λ r. ⌜ Advanced b (now (words .entry)) 0 (blocks (now (words .entry))) (now (output .entry)) (now (output .exit)) ⌝ }
 {
+    // Head and end word are fewer than a block, so that what is left of the division is theirs.
     let n = words.len() / PLACES;
     let mut state = Progress { blocks: 0 };
     while state.blocks < n {
@@ -132,7 +132,7 @@ fn all_blocks(words: &[u32], b: u32, scratch: &mut [i32], output: &mut [u32])
 // The coefficient sheet of a sample sheet in which everything was found right.
 fn convert(words: &[u32], b: u32, scratch: &mut [i32], output: &mut [u32])
     requires { ⌜ Checked (now words) b (length (now scratch)) (length (now output)) ⌝ }
-    ensures { λ r. ⌜ now (scratch .exit) ≡ elements-of (sheets.block (now (words .entry)) (check.blocks (now (words .entry)) - 1)) ⌝ }
+    ensures { λ r. ⌜ now (scratch .exit) ≡ elements-of (sheets.block (now (words .entry)) (blocks (now (words .entry)) - 1)) ⌝ }
     ensures { λ r. ⌜ now (output .exit) ≡ over (sheets.coefficient-sheet b (now (words .entry))) (now (output .entry)) ⌝ }
 {
     output[0] = with_payload(COEFFICIENT_HEAD, payload(words[0]));
@@ -141,14 +141,14 @@ fn convert(words: &[u32], b: u32, scratch: &mut [i32], output: &mut [u32])
     output[end] = words[end];
 }
 
-// The refusal that a faulty word is named by.
+// The refusal that names a faulty word.
 fn refusal(f: Fault) -> Answer
-    requires { ⌜ T (check.names-word sheets.sample-sheet (f .cause)) ⌝ }
+    requires { ⌜ T (names-word sheets.sample-format (f .cause)) ⌝ }
     ensures { λ r. ⌜ returned r ≡ record { number = f .cause; place = f .place } ⌝ }
 {
     let i = f.place;
     if f.cause == 7 {
-        return Answer::Kind(i);
+        return Answer::Words(i);
     }
     if f.cause == 8 {
         return Answer::End(i);
@@ -168,7 +168,7 @@ fn check(words: &[u32], b: u32, scratch: usize, output: usize) -> Answer
         return Answer::Head;
     }
     if words.len() != 2 + PLACES * n {
-        return Answer::Count(words.len());
+        return Answer::Words(words.len());
     }
     if scratch != COMPONENTS {
         return Answer::Lengths;
@@ -180,7 +180,7 @@ fn check(words: &[u32], b: u32, scratch: usize, output: usize) -> Answer
     if fault.cause != 0 {
         return refusal(fault);
     }
-    Answer::Words(words.len())
+    Answer::Accepted(words.len())
 }
 
 // The coefficient sheet of a sample sheet at the width b, or why it is refused; then scratch and output are as they were.

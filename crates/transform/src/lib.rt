@@ -239,5 +239,5 @@ pub fn forward(samples: &[i32], elements: &mut [i32]) -> Answer
         return Answer::Sample(i);
     }
     store(steps(transposed(steps(columns(samples)))), elements);
-    Answer::Accepted
+    Answer::Accepted(0)
 }

@@ -41,6 +41,9 @@ across-word k a d h l = omega arith
 pub down-word : (k a d : ℕ) → a < 2 ^ 14 → d < 2 ^ 14 → down (word k (a * 2 ^ 14 + d)) ≡ d
 down-word k a d h l = omega arith
 
+pub sizes-of-parts : (w : ℕ) → across w * 2 ^ 14 + down w ≡ payload w
+sizes-of-parts w = omega arith
+
 -- values: -2^27 to 2^27 - 1
 
 abbrev pub InRange : ℤ → Type 0

@@ -19,9 +19,26 @@ payload w = w % payloads
 abbrev pub word : ℕ → ℕ → ℕ
 word k p = k * payloads + p
 
+-- 01's table of kinds
+
+abbrev pub sample-head-kind : ℕ
+sample-head-kind = 1
+
+abbrev pub sample-kind : ℕ
+sample-kind = 2
+
+abbrev pub coefficient-kind : ℕ
+coefficient-kind = 3
+
+abbrev pub coefficient-head-kind : ℕ
+coefficient-head-kind = 4
+
+abbrev pub end-kind : ℕ
+end-kind = 15
+
 -- "Values in payloads are 28-bit two's complement"
 
--- the values that a payload can hold: -2^27 to 2^27 - 1
+-- the limit L of the values that a payload can hold, which go from -L to L - 1
 abbrev pub value-limit : ℕ
 value-limit = 2 ^ 27
 

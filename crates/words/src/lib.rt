@@ -4,6 +4,17 @@ ghost use Prim.Native.Nat.{_*_, _<_};
 ghost use lib.IntN.{natAbs};
 ghost use Rattle.words.specs.Word as words;
 
+// 01's table of kinds.
+pub const SAMPLE_HEAD: u32 = 1;
+
+pub const SAMPLE: u32 = 2;
+
+pub const COEFFICIENT: u32 = 3;
+
+pub const COEFFICIENT_HEAD: u32 = 4;
+
+pub const END: u32 = 15;
+
 // How many payloads there are: 2^28.
 const PAYLOADS: u32 = 268435456;
 

@@ -3,8 +3,8 @@
 use mathlib.Core.Path.{sym, _∙_}
 use borrow.Author.Needs.{needs}
 use borrow.Author.Tests.{eq-eqb, ne-eqb}
-use Rattle.words.specs.Word.{kind, payload}
-use Rattle.sheet_checks.specs.Check.{end-kind, end-cause}
+use Rattle.words.specs.Word.{end-kind, kind, payload}
+use Rattle.sheet_checks.specs.Check.{end-cause}
 use Rattle.sheet_checks.proofs.end_cause.Statement.{statement}
 use Rattle.sheet_checks.proofs.end_cause.Tie as tie
 

@@ -1,0 +1,34 @@
+-- 01's number and place tell every answer from every other.
+-- Assumes nothing.
+use mathlib.Core.Path.{_≡_, refl, sym, ap, _∙_}
+use mathlib.Core.Bool.{cond}
+use lib.Dec.{eqb}
+use Rattle.answers.specs.declared.Answer.{Answer}
+use Rattle.answers.specs.declared.Answer.the-variants.{Accepted, Lengths, Sample, Width, Magnitudes, NoBlock, Head, Words, End}
+use Rattle.answers.specs.Answer.{Returned, returned}
+
+-- the answer that has a number and a place
+abbrev answer-of : Returned → Answer
+answer-of r =
+    cond (eqb (r .number) 0) (Accepted (r .place))
+    (cond (eqb (r .number) 1) Lengths
+    (cond (eqb (r .number) 2) (Sample (r .place))
+    (cond (eqb (r .number) 3) Width
+    (cond (eqb (r .number) 4) (Magnitudes (r .place))
+    (cond (eqb (r .number) 5) NoBlock
+    (cond (eqb (r .number) 6) Head
+    (cond (eqb (r .number) 7) (Words (r .place)) (End (r .place)))))))))
+
+there-and-back : (a : Answer) → answer-of (returned a) ≡ a
+there-and-back (Accepted n) = refl
+there-and-back Lengths = refl
+there-and-back (Sample i) = refl
+there-and-back Width = refl
+there-and-back (Magnitudes p) = refl
+there-and-back NoBlock = refl
+there-and-back Head = refl
+there-and-back (Words n) = refl
+there-and-back (End i) = refl
+
+pub only-answer : (a b : Answer) → returned a ≡ returned b → a ≡ b
+only-answer a b e = sym (there-and-back a) ∙ ap answer-of e ∙ there-and-back b
