@@ -81,6 +81,30 @@ cause-names size cause h =
     let (has, none) = lowest-names size (λ i. ltb 0 (cause i)) h in
     (ltb-true 0 (cause (first size (λ i. ltb 0 (cause i)))) has, λ i l. let small = ltb-false 0 (cause i) (none i l) in omega arith)
 
+-- every answer has its reason: where a property holds of what a failed test returns, and of what is returned past it, it holds of the answer
+
+module _ (P : Returned → Type 0) where
+  pub unless-either : (p : ℕ) (t : Bool) (n : ℕ) (next : Returned) → (t ≡ false → P (record { number = n; place = p })) → (t ≡ true → P next)
+      → P (unless-at p t n next)
+  unless-either p true n next refused passed = passed refl
+  unless-either p false n next refused passed = refused refl
+
+  pub cause-either : (size : ℕ) (cause : ℕ → ℕ) (next : Returned)
+      → ((i : ℕ) → i < size → ((j : ℕ) → j < i → cause j ≡ 0) → 0 < cause i → P (record { number = cause i; place = i }))
+      → (((i : ℕ) → i < size → cause i ≡ 0) → P next) → P (lowest-cause size cause next)
+  cause-either size cause next refused passed = go (ltb at size) refl
+    where
+      at : ℕ
+      at = first size (λ i. ltb 0 (cause i))
+
+      go : (t : Bool) → ltb at size ≡ t → P (cond t (record { number = cause at; place = at }) next)
+      go true e = let (above, none) = cause-names size cause (ltb-true at size e) in refused at (ltb-true at size e) none above
+      go false e =
+          passed (λ i l.
+          let none = before-first size (λ i. ltb 0 (cause i)) i (lt-of-lt-of-le l (ltb-false at size e)) in
+          let small = ltb-false 0 (cause i) none in
+          omega arith)
+
 -- what it leaves
 
 pub accepted-written : {A : Type 0} (r : Returned) (result was : A) → T (accepted r) → written r result was ≡ result

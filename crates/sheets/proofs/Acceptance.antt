@@ -55,7 +55,7 @@ module _ (words : List ℕ) where
           let q : suc i < length words = omega arith in
           cause-body sample-format words i p q ∙ no-fault (word-at words i) (S .of-sample-kind i p q) (S .sample-range i p q)
 
-  sheet-of : T (has-head 1 words) → length words ≡ size-of (blocks words) → ((i : ℕ) → i < length words → cause-at sample-format words i ≡ 0)
+  pub sheet-of : T (has-head 1 words) → length words ≡ size-of (blocks words) → ((i : ℕ) → i < length words → cause-at sample-format words i ≡ 0)
       → SampleSheet words
   sheet-of h c none =
       let (some, k, a, d, few) = head-means 1 words h in

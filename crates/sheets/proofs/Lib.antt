@@ -5,3 +5,4 @@ pub mod Causes
 pub mod Loop
 pub mod Acceptance
 pub mod Meaning
+pub mod Reasons

@@ -1,2 +1,3 @@
 pub mod Preconditions
+pub mod Reasons
 pub mod Sheet
