@@ -1,7 +1,9 @@
-// Sum and difference of two i32 as functions, so that a store of one into an array asks only that it fits; and the magnitude of an i32, as
-// a u64, since that of -2^31 is no i32.
+// Sum and difference of two i32 as functions, so that a store of one into an array asks only that it fits; the magnitude of an i32, as a u64,
+// since that of -2^31 is no i32; and whether an i32 lies outside a range.
 ghost use mathlib.Core.Path.{_≡_};
+ghost use mathlib.Core.Bool.{_||_};
 ghost use lib.IntN.{_+ℤ_, _-ℤ_, natAbs};
+ghost use lib.Signed.{ltZ};
 ghost use mir.Val.{SFits};
 ghost use mir.Syntax.{w32};
 
@@ -30,4 +32,14 @@ pub fn magnitude(x: i32) -> u64
         return (0 - wide) as u64;
     }
     wide as u64
+}
+
+// Whether x lies outside a range, both ends of which belong to it.
+pub fn outside(x: i32, lowest: i32, highest: i32) -> bool
+    ensures { λ r. ⌜ r ≡ (ltZ x lowest || ltZ highest x) ⌝ }
+{
+    if x < lowest {
+        return true;
+    }
+    highest < x
 }

@@ -1,12 +1,12 @@
 // The check of a sheet (01, "Sheets"): does it begin with a head of the right kind whose sizes are allowed, and which of its other words is
 // the first that has a fault? The kinds and the range of values are parameters, so that every kind of sheet can have the same check.
 ghost use mathlib.Core.Path.{_≡_};
-ghost use mathlib.Core.Bool.{_||_};
-ghost use Prim.Native.Nat.{_<_};
+ghost use Prim.Native.Nat.{_<_, _≤_};
 ghost use lib.ListN.{length};
-ghost use lib.Signed.{ltZ};
 ghost use Rattle.sheet_checks.specs.Check as check;
 ghost use Rattle.sheet_checks.specs.Check.{Searched};
+use elements::PLACES;
+use integers::outside;
 use words::END;
 use words::kind;
 use words::payload;
@@ -18,7 +18,7 @@ pub struct Format {
     pub head: u32,
     // The kind of the words of its body.
     pub body: u32,
-    // The lowest and the highest value that these may hold, and 01's number where one holds another.
+    // The lowest and the highest value that these may hold, and 01's number of the refusal where a word holds another value.
     pub lowest: i32,
     pub highest: i32,
     pub refusal: u32,
@@ -30,9 +30,18 @@ pub struct Fault {
     pub place: usize,
 }
 
-const BLOCKS_LIMIT: u32 = 128;
+// The blocks that a sheet may have.
+pub const BLOCKS_LIMIT: usize = 128;
 
-// The blocks of a sheet, or 0 where it does not begin with a head of this kind that has sizes that are allowed.
+// The words of a sheet of n blocks: a head, the blocks and an end word.
+pub fn size_of(n: usize) -> usize
+    requires { ⌜ n ≤ check.blocks-limit ⌝ }
+    ensures { λ r. ⌜ r ≡ check.size-of n ⌝ }
+{
+    2 + PLACES * n
+}
+
+// The blocks of a sheet, or 0 where it does not begin with a head of this kind, or its sizes are not allowed: a size of 0 makes 0 blocks.
 pub fn blocks_of(head: u32, sheet: &[u32]) -> usize
     ensures { λ r. ⌜ r ≡ check.allowed-blocks head (now (sheet .entry)) ⌝ }
 {
@@ -43,21 +52,11 @@ pub fn blocks_of(head: u32, sheet: &[u32]) -> usize
     if kind(w) != head {
         return 0;
     }
-    let n = words::blocks(w);
+    let n = words::blocks(w) as usize;
     if BLOCKS_LIMIT < n {
         return 0;
     }
-    n as usize
-}
-
-// Whether a value lies outside a range, of which both ends belong to it.
-fn outside(z: i32, lowest: i32, highest: i32) -> bool
-    ensures { λ r. ⌜ r ≡ (ltZ z lowest || ltZ highest z) ⌝ }
-{
-    if z < lowest {
-        return true;
-    }
-    highest < z
+    n
 }
 
 // The cause of a fault in a word of the body, kind before value, or 0.

@@ -1,7 +1,7 @@
 -- Every answer of the sheet job has its reason: "No refusal comes without its cause".
 -- Assumes nothing.
 use mathlib.Core.Path.{_≡_, refl, sym, _∙_}
-use mathlib.Core.Bool.{Bool, true, false, cond, _&&_, _||_}
+use mathlib.Core.Bool.{Bool, true, false, cond, not, _&&_}
 use mathlib.Core.List.{List}
 use Prim.Native.Nat.{ℕ, zero, suc, _-_, _<_}
 use native.Mathlib.Decide.{ℕ-discrete}
@@ -14,7 +14,7 @@ use borrow.Author.Tests.{eq-eqb, eqb-true, eqb-false, leb-false, not-true}
 use Rattle.dct.specs.Limits.{components-size, in-range, sample-limit}
 use Rattle.answers.specs.Answer.{unless, unless-at, accept-words}
 use Rattle.answers.proofs.Accepted.{unless-either, cause-either}
-use Rattle.transform.proofs.Range.{too-low, not-too-low}
+use Rattle.transform.proofs.Range.{outside-range}
 use Rattle.rounding.specs.Tables.{width}
 use Rattle.words.specs.Word.{end-kind, kind, payload, sample-head-kind, sample-kind, value}
 use Rattle.sheet_checks.specs.Check.{word-at, blocks, size-of, has-head, shape, body-cause, end-cause, cause-at, contents}
@@ -36,7 +36,7 @@ module _ (words : List ℕ) (b s o : ℕ) where
   of-body : (i : ℕ) → None-before words i → suc i < length words → 0 < body-cause sample-format (word-at words i)
       → Reason words b s o (record { number = body-cause sample-format (word-at words i); place = i })
   unfolding body-cause
-  of-body i before h above = go (eqb (kind w) sample-kind) (ltZ v (negsuc M)) (ltZ (pos M) v) refl refl refl above
+  of-body i before h above = rw (outside-range M v) (go (eqb (kind w) sample-kind) (in-range v) refl refl (rw (outside-range M v) at above))
     where
       w : ℕ
       w = word-at words i
@@ -47,12 +47,11 @@ module _ (words : List ℕ) (b s o : ℕ) where
       M : ℕ
       M = sample-limit - 1
 
-      go : (k low high : Bool) → eqb (kind w) sample-kind ≡ k → ltZ v (negsuc M) ≡ low → ltZ (pos M) v ≡ high → 0 < cond k (cond (low || high) 2 0) 7
-          → Reason words b s o (record { number = cond k (cond (low || high) 2 0) 7; place = i })
-      go true true high k l g above = outside i before h (not-true (in-range v) (sym (too-low M v l)))
-      go true false true k l g above = outside i before h (not-true (in-range v) (sym (not-too-low M v l) ∙ g))
-      go true false false k l g above = absurd (omega arith)
-      go false low high k l g above = no-sample i before h (eqb-false (kind w) sample-kind k)
+      go : (k r : Bool) → eqb (kind w) sample-kind ≡ k → in-range v ≡ r → 0 < cond k (cond (not r) 2 0) 7
+          → Reason words b s o (record { number = cond k (cond (not r) 2 0) 7; place = i })
+      go true true k r above = absurd (omega arith)
+      go true false k r above = outside i before h r
+      go false q k r above = no-sample i before h (eqb-false (kind w) sample-kind k)
 
   of-end : (i : ℕ) → None-before words i → suc i ≡ length words → 0 < end-cause (blocks words) (word-at words i)
       → Reason words b s o (record { number = end-cause (blocks words) (word-at words i); place = i })

@@ -14,13 +14,13 @@ use borrow.Author.Tests.{eq-eqb, eqb-true, not-false}
 use Rattle.integers.proofs.Tables.{getD-table, length-table}
 use Rattle.dct.specs.Limits.{places, components-size, in-range, sample-limit}
 use Rattle.transform.specs.Forward.{AllInRange, elements-of, forward-elements}
-use Rattle.transform.proofs.Range.{too-low, not-too-low}
+use Rattle.transform.proofs.Range.{outside-range}
 use Rattle.transform.proofs.Refusals.{accepts, accepted-leaves}
 use Rattle.accepted_sets.proofs.BlockSets.{block-set}
 use Rattle.rounding.specs.Rounding.{round-coefficients}
 use Rattle.rounding.specs.Tables.{width}
 use Rattle.rounding.proofs.Blocks.{coefficient-size, block-accepted}
-use Rattle.words.specs.Word.{kind, payload, value}
+use Rattle.words.specs.Word.{kind, payload, sample-kind, value}
 use Rattle.sheet_checks.specs.Check.{word-at, blocks, body-cause}
 use Rattle.sheets.specs.Preconditions.{Checked, Fit}
 use Rattle.sheets.specs.Sheet.{sample-format, block, block-coefficients}
@@ -34,25 +34,19 @@ module _ (w : ℕ) where
   abbrev v : ℤ
   v = value (payload w)
 
-  pub no-cause : body-cause sample-format w ≡ 0 → (kind w ≡ sample-format .body) × (in-range v ≡ true)
+  pub no-cause : body-cause sample-format w ≡ 0 → (kind w ≡ sample-kind) × (in-range v ≡ true)
   unfolding body-cause
-  no-cause e = go (eqb (kind w) (sample-format .body)) (ltZ v (negsuc M)) (ltZ (pos M) v) refl refl refl e
+  no-cause e = go (eqb (kind w) sample-kind) (in-range v) refl refl (rw (outside-range M v) at e)
     where
-      go : (k low high : Bool) → eqb (kind w) (sample-format .body) ≡ k → ltZ v (negsuc M) ≡ low → ltZ (pos M) v ≡ high
-          → _≡_ {A = ℕ} (cond k (cond (low || high) 2 0) 7) 0 → (kind w ≡ sample-format .body) × (in-range v ≡ true)
-      go true false false k l h e = (eqb-true (kind w) (sample-format .body) k, not-false (in-range v) (sym (not-too-low M v l) ∙ h))
-      go true false true k l h e = absurd (omega arith)
-      go true true high k l h e = absurd (omega arith)
-      go false low high k l h e = absurd (omega arith)
+      go : (k r : Bool) → eqb (kind w) sample-kind ≡ k → in-range v ≡ r → _≡_ {A = ℕ} (cond k (cond (not r) 2 0) 7) 0
+          → (kind w ≡ sample-kind) × (in-range v ≡ true)
+      go true true k r e = (eqb-true (kind w) sample-kind k, r)
+      go true false k r e = absurd (omega arith)
+      go false q k r e = absurd (omega arith)
 
-  pub no-fault : kind w ≡ sample-format .body → in-range v ≡ true → body-cause sample-format w ≡ 0
+  pub no-fault : kind w ≡ sample-kind → in-range v ≡ true → body-cause sample-format w ≡ 0
   unfolding body-cause
-  no-fault k r = go (ltZ v (negsuc M)) refl
-    where
-      go : (low : Bool) → ltZ v (negsuc M) ≡ low
-          → _≡_ {A = ℕ} (cond (eqb (kind w) (sample-format .body)) (cond (ltZ v (negsuc M) || ltZ (pos M) v) 2 0) 7) 0
-      go true l = absurd (subst T (too-low M v l ∙ ap not r) tt)
-      go false l = rw (eq-eqb (kind w) (sample-format .body) k, l, not-too-low M v l ∙ ap not r)
+  no-fault k r = rw (eq-eqb (kind w) sample-kind k, outside-range M v ∙ ap not r)
 
 module _ {words : List ℕ} {b s o : ℕ} (C : Checked words b s o) (k : ℕ) (h : k < blocks words) where
   -- the words of block k

@@ -26,6 +26,7 @@ use sheet_checks::Fault;
 use sheet_checks::Format;
 use sheet_checks::blocks_of;
 use sheet_checks::first_fault;
+use sheet_checks::size_of;
 use transform::HIGHEST_SAMPLE;
 use transform::LOWEST_SAMPLE;
 use transform::forward;
@@ -39,7 +40,7 @@ use words::with_payload;
 use words::with_value;
 
 // A sheet of samples.
-const SAMPLES: Format = Format {
+const SAMPLE_FORMAT: Format = Format {
     head: SAMPLE_HEAD,
     body: SAMPLE,
     lowest: LOWEST_SAMPLE,
@@ -141,7 +142,7 @@ fn convert(words: &[u32], b: u32, scratch: &mut [i32], output: &mut [u32])
     output[end] = words[end];
 }
 
-// The refusal that names a faulty word.
+// The refusal that names a faulty word: its number is 7, 8 or that of a sample out of range.
 fn refusal(f: Fault) -> Answer
     requires { ⌜ T (names-word sheets.sample-format (f .cause)) ⌝ }
     ensures { λ r. ⌜ returned r ≡ record { number = f .cause; place = f .place } ⌝ }
@@ -163,11 +164,11 @@ fn check(words: &[u32], b: u32, scratch: usize, output: usize) -> Answer
     if !is_width(b) {
         return Answer::Width;
     }
-    let n = blocks_of(SAMPLES.head, words);
+    let n = blocks_of(SAMPLE_FORMAT.head, words);
     if n == 0 {
         return Answer::Head;
     }
-    if words.len() != 2 + PLACES * n {
+    if words.len() != size_of(n) {
         return Answer::Words(words.len());
     }
     if scratch != COMPONENTS {
@@ -176,7 +177,7 @@ fn check(words: &[u32], b: u32, scratch: usize, output: usize) -> Answer
     if output < words.len() {
         return Answer::Lengths;
     }
-    let fault = first_fault(SAMPLES, n, words);
+    let fault = first_fault(SAMPLE_FORMAT, n, words);
     if fault.cause != 0 {
         return refusal(fault);
     }

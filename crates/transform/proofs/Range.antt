@@ -1,7 +1,7 @@
 -- The range of samples: the code's two comparisons, and the magnitude that the range allows.
 -- Assumes nothing.
 use mathlib.Core.Path.{_≡_, refl, sym, ap, _∙_, subst}
-use mathlib.Core.Bool.{Bool, true, false, not, _&&_}
+use mathlib.Core.Bool.{Bool, true, false, not, _&&_, _||_}
 use Prim.Native.Nat.{ℕ, suc, _≤_, _<_}
 use native.Mathlib.Decide.{decLt}
 use native.Mathlib.Omega.{arith}
@@ -30,13 +30,13 @@ module _ (M : ℕ) where
       and-true true = refl
       and-true false = refl
 
-  pub too-low : (x : ℤ) → ltZ x (negsuc M) ≡ true → true ≡ not (in-signed-range (suc M) x)
-  too-low (pos n) e = absurd (subst T (sym e) tt)
-  too-low (negsuc n) e = sym e ∙ beyond M n ∙ negative n
-
-  pub not-too-low : (x : ℤ) → ltZ x (negsuc M) ≡ false → ltZ (pos M) x ≡ not (in-signed-range (suc M) x)
-  not-too-low (pos n) e = beyond M n
-  not-too-low (negsuc n) e = sym e ∙ beyond M n ∙ negative n
+  pub outside-range : (x : ℤ) → (ltZ x (negsuc M) || ltZ (pos M) x) ≡ not (in-signed-range (suc M) x)
+  outside-range (pos n) = beyond M n
+  outside-range (negsuc n) = or-false (ltb M n) ∙ beyond M n ∙ negative n
+    where
+      or-false : (b : Bool) → (b || false) ≡ b
+      or-false true = refl
+      or-false false = refl
 
   pub in-range-small : (x : ℤ) → in-signed-range (suc M) x ≡ true → natAbs x ≤ suc M
   in-range-small (pos n) e = let h : n < suc M = leb→le (suc n) (suc M) (rw e tt) in omega arith

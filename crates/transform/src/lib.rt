@@ -202,10 +202,7 @@ fn store(e: [[Element; 8]; 8], elements: &mut [i32])
 fn outside(x: i32) -> bool
     ensures { λ r. ⌜ r ≡ not (in-range x) ⌝ }
 {
-    if x < LOWEST_SAMPLE {
-        return true;
-    }
-    HIGHEST_SAMPLE < x
+    integers::outside(x, LOWEST_SAMPLE, HIGHEST_SAMPLE)
 }
 
 // The lowest index of a sample that is out of range, and 64 where there is none.

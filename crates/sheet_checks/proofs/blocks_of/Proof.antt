@@ -22,13 +22,13 @@ returns-2 c = other-kind _ _ (omega arith) (λ e. c .if2 .taken (c .before .kind
 blocks-requires : tie.Need-blocks-requires
 blocks-requires c κs = search needs
 
+cast-n : tie.Need-cast-n
+cast-n c = search needs
+
 returns-3 : tie.Need-returns-3
 returns-3 c =
     let looked = c .before .before in
     too-many _ _ (omega arith) (sym (looked .before .kind .ensures) ∙ looked .if2 .left) (rw (c .before .blocks2 .ensures) at (c .if3 .taken))
-
-cast-result : tie.Need-cast-result
-cast-result c = search needs
 
 returns-4 : tie.Need-returns-4
 returns-4 c =
@@ -38,4 +38,4 @@ returns-4 c =
 
 pub blocks-of-spec : {M : Type 1} → statement M
 blocks-of-spec =
-    tie.close (tie.spec returns shared-slice-read-w kind-requires returns-2 blocks-requires returns-3 cast-result returns-4)
+    tie.close (tie.spec returns shared-slice-read-w kind-requires returns-2 blocks-requires cast-n returns-3 returns-4)

@@ -1,6 +1,6 @@
 -- `check` meets its contract: each way out is a law of causes.
 -- Assumes nothing.
-use mathlib.Core.Path.{_∙_}
+use mathlib.Core.Path.{sym, _∙_}
 use native.Mathlib.Omega.{arith}
 use borrow.Author.Needs.{needs}
 use borrow.Author.Tests.{ne-eqb}
@@ -23,41 +23,41 @@ returns-2 c =
     let looked = c .before in
     refused-head _ _ _ _ (looked .before .before .is-width .ensures) (looked .before .if1 .left) (looked .blocks-of .ensures) (c .if2 .taken)
 
-mul-if3 : tie.Need-mul-if3
-mul-if3 c =
+size-of-requires : tie.Need-size-of-requires
+size-of-requires c κs =
     let looked = c .before in
-    omega (arith, looked .blocks-of .ensures, few-blocks 1 (looked .before .before .before .before .args .words .now))
-
-add-if3 : tie.Need-add-if3
-add-if3 c =
-    let looked = c .before in
-    omega (arith, looked .blocks-of .ensures, few-blocks 1 (looked .before .before .before .before .args .words .now))
+    rw (looked .blocks-of .ensures) (few-blocks 1 (looked .before .before .before .before .args .words .now))
 
 returns-3 : tie.Need-returns-3
 returns-3 c =
-    let looked = c .before .before in
-    wrong-count _ _ _ _ (looked .before .before .is-width .ensures) (looked .before .if1 .left) (looked .blocks-of .ensures) (c .before .if2 .left)
-    (c .if3 .taken)
+    let sized = c .before in
+    let looked = sized .before .before in
+    wrong-count _ _ _ _ (looked .before .before .is-width .ensures) (looked .before .if1 .left) (looked .blocks-of .ensures) (sized .before .if2 .left)
+    (λ e. c .if3 .taken (e ∙ sym (sized .size-of .ensures)))
 
 returns-4 : tie.Need-returns-4
 returns-4 c =
-    let looked = c .before .before .before in
-    wrong-scratch _ _ _ _ (looked .before .before .is-width .ensures) (looked .before .if1 .left) (looked .blocks-of .ensures) (c .before .before .if2 .left)
-    (c .before .if3 .left) (c .if4 .taken)
+    let sized = c .before .before in
+    let looked = sized .before .before in
+    wrong-scratch _ _ _ _ (looked .before .before .is-width .ensures) (looked .before .if1 .left) (looked .blocks-of .ensures)
+    (sized .before .if2 .left) (c .before .if3 .left ∙ sized .size-of .ensures) (c .if4 .taken)
 
 returns-5 : tie.Need-returns-5
 returns-5 c =
-    let looked = c .before .before .before .before in
+    let sized = c .before .before .before in
+    let looked = sized .before .before in
     short-output _ _ _ _ (looked .before .before .is-width .ensures) (looked .before .if1 .left) (looked .blocks-of .ensures)
-    (c .before .before .before .if2 .left) (c .before .before .if3 .left) (c .before .if4 .left) (c .if5 .taken)
+    (sized .before .if2 .left) (c .before .before .if3 .left ∙ sized .size-of .ensures) (c .before .if4 .left) (c .if5 .taken)
 
 first-fault-requires : tie.Need-first-fault-requires
 first-fault-requires c κs =
-    let looked = c .before .before .before .before in
-    let start = looked .before .before .before .before in (
+    let sized = c .before .before .before in
+    let looked = sized .before .before in
+    let start = looked .before .before .before .before in
+    let counts = c .before .before .if3 .left ∙ sized .size-of .ensures in (
       counted (start .args .words .now) (start .args .b) (start .args .scratch) (start .args .output) (looked .before .before .is-width .ensures)
-          (looked .before .if1 .left) (looked .blocks-of .ensures) (c .before .before .before .if2 .left),
-      omega arith,
+          (looked .before .if1 .left) (looked .blocks-of .ensures) (sized .before .if2 .left),
+      omega (arith, counts),
     )
 
 refusal-requires : tie.Need-refusal-requires
@@ -69,23 +69,25 @@ returns-6 : tie.Need-returns-6
 returns-6 c =
     let found = c .before .before .before in
     let room = found .before in
-    let looked = room .before .before .before .before in
+    let sized = room .before .before .before in
+    let looked = sized .before .before in
     c .refusal .ensures
     ∙ faulty-word _ _ _ _ (looked .before .before .is-width .ensures) (looked .before .if1 .left) (looked .blocks-of .ensures)
-    (room .before .before .before .if2 .left) (room .before .before .if3 .left) (room .before .if4 .left) (room .if5 .left) (found .first-fault .ensures)
-    (c .before .if6 .taken)
+    (sized .before .if2 .left) (room .before .before .if3 .left ∙ sized .size-of .ensures) (room .before .if4 .left) (room .if5 .left)
+    (found .first-fault .ensures) (c .before .if6 .taken)
 
 returns-7 : tie.Need-returns-7
 returns-7 c =
     let found = c .before .before in
     let room = found .before in
-    let looked = room .before .before .before .before in
+    let sized = room .before .before .before in
+    let looked = sized .before .before in
     no-fault _ _ _ _ (looked .before .before .is-width .ensures) (looked .before .if1 .left) (looked .blocks-of .ensures)
-    (room .before .before .before .if2 .left) (room .before .before .if3 .left) (room .before .if4 .left) (room .if5 .left) (found .first-fault .ensures)
-    (c .if6 .left)
+    (sized .before .if2 .left) (room .before .before .if3 .left ∙ sized .size-of .ensures) (room .before .if4 .left) (room .if5 .left)
+    (found .first-fault .ensures) (c .if6 .left)
 
 pub check-spec : {M : Type 1} → statement M
 check-spec =
     tie.close
-    (tie.spec is-width-requires returns blocks-of-requires returns-2 mul-if3 add-if3 returns-3 returns-4 returns-5 first-fault-requires
+    (tie.spec is-width-requires returns blocks-of-requires returns-2 size-of-requires returns-3 returns-4 returns-5 first-fault-requires
     refusal-requires returns-6 returns-7)

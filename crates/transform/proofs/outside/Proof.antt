@@ -1,25 +1,24 @@
--- `outside` meets its contract: its two comparisons are those of the range.
+-- `outside` meets its contract: the range is that of samples.
 -- Assumes nothing.
-use mathlib.Core.Path.{_≡_}
+use mathlib.Core.Path.{_≡_, _∙_}
+use Prim.Native.Nat.{_-_}
 use mir.Syntax.{w32}
 use mir.Val.{ofZ, toZ}
 use mir.Facts.{toZ-ofZ}
 use borrow.Author.Needs.{needs}
-use Rattle.transform.proofs.Range.{too-low, not-too-low}
+use Rattle.dct.specs.Limits.{sample-limit}
+use Rattle.transform.proofs.Range.{outside-range}
 use Rattle.transform.proofs.outside.Statement.{statement}
 use Rattle.transform.proofs.outside.Tie as tie
+
+outside-requires : tie.Need-outside-requires
+outside-requires c κs = search needs
 
 returns : tie.Need-returns
 returns c =
     let x = c .before .args .x in
     let read : toZ w32 (ofZ w32 x) ≡ x = toZ-ofZ (search needs) in
-    too-low 2047 x (rw read at (c .if1 .taken))
-
-returns-2 : tie.Need-returns-2
-returns-2 c =
-    let x = c .before .args .x in
-    let read : toZ w32 (ofZ w32 x) ≡ x = toZ-ofZ (search needs) in
-    rw read (not-too-low 2047 x (rw read at (c .if1 .left)))
+    c .outside .ensures ∙ rw read (outside-range (sample-limit - 1) x)
 
 pub outside-spec : {M : Type 1} → statement M
-outside-spec = tie.close (tie.spec returns returns-2)
+outside-spec = tie.close (tie.spec outside-requires returns)

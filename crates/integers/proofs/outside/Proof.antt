@@ -5,23 +5,23 @@ use mir.Syntax.{w32}
 use mir.Val.{ofZ, toZ}
 use mir.Facts.{toZ-ofZ}
 use borrow.Author.Needs.{needs}
-use Rattle.sheet_checks.proofs.outside.Statement.{statement}
-use Rattle.sheet_checks.proofs.outside.Tie as tie
+use Rattle.integers.proofs.outside.Statement.{statement}
+use Rattle.integers.proofs.outside.Tie as tie
 
 returns : tie.Need-returns
 returns c =
-    let z = c .before .args .z in
+    let x = c .before .args .x in
     let lowest = c .before .args .lowest in
-    let read : toZ w32 (ofZ w32 z) ≡ z = toZ-ofZ (search needs) in
+    let read : toZ w32 (ofZ w32 x) ≡ x = toZ-ofZ (search needs) in
     let read-lowest : toZ w32 (ofZ w32 lowest) ≡ lowest = toZ-ofZ (search needs) in
     rw (rw (read, read-lowest) at (c .if1 .taken))
 
 returns-2 : tie.Need-returns-2
 returns-2 c =
-    let z = c .before .args .z in
+    let x = c .before .args .x in
     let lowest = c .before .args .lowest in
     let highest = c .before .args .highest in
-    let read : toZ w32 (ofZ w32 z) ≡ z = toZ-ofZ (search needs) in
+    let read : toZ w32 (ofZ w32 x) ≡ x = toZ-ofZ (search needs) in
     let read-lowest : toZ w32 (ofZ w32 lowest) ≡ lowest = toZ-ofZ (search needs) in
     let read-highest : toZ w32 (ofZ w32 highest) ≡ highest = toZ-ofZ (search needs) in
     rw (read, read-highest, rw (read, read-lowest) at (c .if1 .left))
