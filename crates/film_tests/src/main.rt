@@ -1,6 +1,6 @@
 // Runs 01's films through forward, back, rounding and the sheet job, and some more calls of their kind, and prints what each returns and leaves;
 // the file stdout has what 01 says, or what follows from its rules. A line has the number and the place that the call returns, and then some
-// numbers of its buffers, which held 7 before.
+// numbers of its buffers, which held 7 before; words are in hexadecimal.
 ghost use Prim.Native.Nat.{_<_};
 use answers::Answer;
 use inverse::back;
@@ -8,35 +8,24 @@ use rounding::round;
 use sheets::sheet;
 use transform::forward;
 
-// The digits of n below 10^10, without zeros in front, and a byte after them.
-fn print_digits(n: u64, after: u8) {
-    let mut power: u64 = 1000000000;
-    let mut shown = false;
-    while 0 < power {
-        let digit = (n / power % 10) as u8;
-        shown = shown || digit != 0 || power == 1;
-        if shown {
-            io::write_all(1, &[b'0' + digit]);
-        }
-        power /= 10;
-    }
-    io::write_all(1, &[after]);
-}
-
 fn print(n: i32, after: u8) {
     if n < 0 {
         io::write_all(1, b"-");
     }
-    print_digits(integers::magnitude(n), after);
+    io::print_decimal(1, integers::magnitude(n));
+    io::write_all(1, &[after]);
 }
 
 fn print_word(w: u32, after: u8) {
-    print_digits(w as u64, after);
+    io::print_hex(1, w as u64, 8);
+    io::write_all(1, &[after]);
 }
 
 fn print_answer(a: Answer) {
-    print_digits(answers::number(a) as u64, b' ');
-    print_digits(answers::place(a) as u64, b' ');
+    io::print_decimal(1, answers::number(a) as u64);
+    io::write_all(1, b" ");
+    io::print_decimal(1, answers::place(a) as u64);
+    io::write_all(1, b" ");
 }
 
 // Forward of samples that are all `other`, but for x at index i: the first number, the last, and those of (0,1), (1,1) and (1,7) that
@@ -165,7 +154,7 @@ fn try_sheet(x: u32, i: usize, b: u32)
     print(scratch[511], b'\n');
 }
 
-// 66 words of a head: a scratch of 511 or an output of 65 is cause 1, before the second word's 7. 65 words of a head: 7 at 65, before 1.
+// 66 words, each a head: a scratch of 511 or an output of 65 is cause 1, before the second word's 7. 65 such words: 7 at 65, before 1.
 fn short_sheet() {
     let head = [0x10004001u32; 66];
     let mut output = [7u32; 66];
@@ -188,7 +177,7 @@ fn short_sheet() {
     print(short_scratch[0], b'\n');
 }
 
-// No words: 6, and at b = 12 3 before it.
+// No words are cause 6; at b = 12 they are cause 3, which is asked first.
 fn empty_sheet(b: u32) {
     let words = [0u32; 1];
     let mut output = [7u32; 66];

@@ -18,7 +18,7 @@ use Rattle.answers.proofs.Accepted.{accepted-written}
 use Rattle.sheet_checks.specs.Check.{word-at}
 use Rattle.sheets.specs.Sheet.{output-word, coefficient-sheet, sheet-returned, sheet-output}
 use Rattle.sheets.proofs.Causes.{accepted-checked, accepted-returns}
-use Rattle.sheet_bytes.specs.Program.{program-width, words-limit, byte-of, bytes-of, refusal-line, answer, answered}
+use Rattle.sheet_bytes.specs.Program.{program-width, words-limit, byte-of, bytes-of, refusal-line, answer, bytes-for}
 
 -- the bytes of some words are four for each
 pub length-bytes : (words : List ℕ) → length (bytes-of words) ≡ 4 * length words
@@ -30,7 +30,7 @@ pub record Written (words left : List ℕ) (p : ℕ) : Type 0 where
   pub room : p ≤ words-limit
   pub size : length left ≡ words-limit
   pub count : length (take p left) ≡ p
-  pub is : bytes-of (take p left) ≡ answered words
+  pub is : bytes-of (take p left) ≡ bytes-for words
 
 -- a call of the sheet job with zeros in its buffers and room for every sheet, which answers r: the number n and the place p
 
@@ -46,7 +46,7 @@ module _ (words : List ℕ) (r : Returned) (e : r ≡ sheet-returned words progr
   is-answer = e ∙ ap₂ (sheet-returned words program-width) (length-replicate components-size (pos 0)) (length-replicate {A = ℕ} words-limit 0)
 
   -- it is refused
-  pub refused : (n ≡ 0 → ⊥) → refusal-line (record { number = n; place = p }) ≡ answered words
+  pub refused : (n ≡ 0 → ⊥) → refusal-line (record { number = n; place = p }) ≡ bytes-for words
   refused h = rw (f, g, ← is-answer, ne-eqb (r .number) 0 (λ z. h (f ∙ z)))
 
   -- it is accepted

@@ -12,7 +12,7 @@ use Rattle.io.specs.Counts.{Counts}
 use Rattle.integers.specs.Table.{over}
 use Rattle.integers.proofs.Overwriting.{take-over}
 use Rattle.integers.proofs.Tables.{length-table}
-use Rattle.sheet_bytes.specs.Program.{input-limit, word-from, words-of, refusal-line, answered, output-bytes}
+use Rattle.sheet_bytes.specs.Program.{input-limit, word-from, words-of, refusal-line, bytes-for, output-bytes}
 
 -- the whole words of some bytes are one for each four
 length-words : (bytes : List ℕ) → length (words-of bytes) ≡ length bytes / 4
@@ -42,7 +42,7 @@ module _ (input : List ℕ) {r : ℕ} (e : r ≡ min (length input) input-limit)
   loaded-count left l f = sym (ap length (loaded left l f) ∙ length-words (take r input) ∙ ap (λ k. k / 4) count)
 
   pub whole-words : (left l : List ℕ) → left ≡ over (words-of (take r input)) l → r % 4 ≡ 0
-      → answered (take (r / 4) left) ≡ output-bytes (take input-limit input)
+      → bytes-for (take (r / 4) left) ≡ output-bytes (take input-limit input)
   unfolding output-bytes
   whole-words left l f h = rw (loaded left l f, ← same, count, eq-eqb (r % 4) 0 h)
 

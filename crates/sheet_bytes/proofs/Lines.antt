@@ -7,11 +7,11 @@ use native.Mathlib.Omega.{arith}
 use lib.ListN.{length, take, drop, length-append, length-take, length-drop}
 use Rattle.integers.specs.Table.{over}
 use Rattle.integers.proofs.Overwriting.{over-none, over-lent, length-over}
-use Rattle.sheet_bytes.specs.Parts.{Continued}
+use Rattle.sheet_bytes.specs.Parts.{Appended}
 
 -- the rest from `at` on, of k places, is lent, and comes back as ys
 pub lent : (part xs ys : List ℕ) (at k : ℕ) → at + k ≡ length xs → length part ≤ k → ys ≡ over part (take k (drop at xs))
-    → Continued part at xs (take at xs ++ (ys ++ drop k (drop at xs))) (at + length part)
+    → Appended part at xs (take at xs ++ (ys ++ drop k (drop at xs))) (at + length part)
 lent part xs ys at k s h e = record {
   end = refl;
   size =
@@ -22,7 +22,7 @@ lent part xs ys at k s h e = record {
 }
 
 -- two parts, one after the other
-pub together : {p q x y z : List ℕ} {at a b : ℕ} → Continued p at x y a → Continued q a y z b → Continued (p ++ q) at x z b
+pub together : {p q x y z : List ℕ} {at a b : ℕ} → Appended p at x y a → Appended q a y z b → Appended (p ++ q) at x z b
 together {p} {q} C D = record {
   end = simp length-append (omega arith);
   size = D .size ∙ C .size;
@@ -31,5 +31,5 @@ together {p} {q} C D = record {
 }
 
 -- the whole line stands over the start
-pub whole : {p x y : List ℕ} {r : ℕ} → Continued p 0 x y r → (r ≡ length p) × (y ≡ over p x)
+pub whole : {p x y : List ℕ} {r : ℕ} → Appended p 0 x y r → (r ≡ length p) × (y ≡ over p x)
 whole {p} {x} C = (omega arith, C .more [] x refl refl (sym (over-none x)))

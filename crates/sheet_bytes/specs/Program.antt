@@ -72,10 +72,10 @@ abbrev pub answer : List ℕ → Returned
 answer words = sheet-returned words program-width components-size words-limit
 
 -- what is written for whole words
-abbrev pub answered : List ℕ → List ℕ
-answered words = cond (accepted (answer words)) (bytes-of (coefficient-sheet program-width words)) (refusal-line (answer words))
+abbrev pub bytes-for : List ℕ → List ℕ
+bytes-for words = cond (accepted (answer words)) (bytes-of (coefficient-sheet program-width words)) (refusal-line (answer words))
 
 -- what is written for the bytes that are read: "One to three bytes over are 7 at the count of whole words, before all else"
 unfoldable pub output-bytes : List ℕ → List ℕ
 output-bytes input =
-    cond (eqb (length input % 4) 0) (answered (words-of input)) (refusal-line (record { number = 7; place = length input / 4 }))
+    cond (eqb (length input % 4) 0) (bytes-for (words-of input)) (refusal-line (record { number = 7; place = length input / 4 }))

@@ -7,24 +7,26 @@ ghost use Prim.Native.Nat.{_+_, _*_, _/_, _≤_, _<_, min};
 ghost use lib.ListN.{length, take};
 ghost use Rattle.io.specs.Counts.{Counts};
 ghost use Rattle.integers.specs.Table.{over};
-ghost use Rattle.sheet_bytes.specs.Parts.{Continued};
+ghost use Rattle.sheet_bytes.specs.Parts.{Appended};
 ghost use Rattle.sheet_bytes.specs.Program as program;
 ghost use Rattle.sheet_bytes.specs.Program.{input-limit, output-bytes, output-limit};
 use answers::number;
 use answers::place;
 use elements::COMPONENTS;
+use elements::PLACES;
+use sheet_checks::BLOCKS_LIMIT;
 use sheets::sheet;
 
 // The width that the program works at.
 const WIDTH: u32 = 26;
 
+// The words of the largest sheet, and their bytes, which are the most that it writes.
+const WORDS_LIMIT: usize = 2 + PLACES * BLOCKS_LIMIT;
+
+pub const OUTPUT_LIMIT: usize = 4 * WORDS_LIMIT;
+
 // The bytes that it reads at most: one word more than the largest sheet has.
 pub const INPUT_LIMIT: usize = 32780;
-
-// The words of the largest sheet, and their bytes, which are the most that it writes.
-const WORDS_LIMIT: usize = 8194;
-
-pub const OUTPUT_LIMIT: usize = 32776;
 
 // The word of four bytes, of which a is the most significant.
 fn word_of(a: u8, b: u8, c: u8, d: u8) -> u32
@@ -93,7 +95,7 @@ fn copy(text: &[u8], output: &mut [u8])
 // A text, written from index `at` on, and where it ends.
 fn put(text: &[u8], output: &mut [u8], at: usize) -> usize
     requires { ⌜ at + length (now text) ≤ length (now output) ⌝ }
-    ensures { λ r. ⌜ Continued (now (text .entry)) at (now (output .entry)) (now (output .exit)) r ⌝ }
+    ensures { λ r. ⌜ Appended (now (text .entry)) at (now (output .entry)) (now (output .exit)) r ⌝ }
 {
     copy(text, &mut output[at..]);
     at + text.len()
@@ -102,7 +104,7 @@ fn put(text: &[u8], output: &mut [u8], at: usize) -> usize
 // A number in decimal, written from index `at` on, and where it ends.
 fn put_decimal(n: u64, output: &mut [u8], at: usize) -> usize
     requires { ⌜ at + 20 ≤ length (now output) ⌝ }
-    ensures { λ r. ⌜ Continued (program.decimal n) at (now (output .entry)) (now (output .exit)) r ⌝ }
+    ensures { λ r. ⌜ Appended (program.decimal n) at (now (output .entry)) (now (output .exit)) r ⌝ }
     ensures { λ r. ⌜ r ≤ at + 20 ⌝ }
 {
     let mut text = [0u8; 20];
@@ -133,8 +135,8 @@ fn least(a: usize, b: usize) -> usize
 // What is written for whole words, at the start of `output`, and how many bytes there are.
 fn answer_words(words: &[u32], output: &mut [u8]) -> usize
     requires { ⌜ output-limit ≤ length (now output) ⌝ }
-    ensures { λ r. ⌜ r ≡ length (program.answered (now (words .entry))) ⌝ }
-    ensures { λ r. ⌜ now (output .exit) ≡ over (program.answered (now (words .entry))) (now (output .entry)) ⌝ }
+    ensures { λ r. ⌜ r ≡ length (program.bytes-for (now (words .entry))) ⌝ }
+    ensures { λ r. ⌜ now (output .exit) ≡ over (program.bytes-for (now (words .entry))) (now (output .entry)) ⌝ }
 {
     let mut scratch = [0i32; COMPONENTS];
     let mut made = [0u32; WORDS_LIMIT];

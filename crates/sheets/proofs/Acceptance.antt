@@ -12,7 +12,7 @@ use borrow.Author.Tests.{eq-eqb, eqb-true}
 use Rattle.dct.specs.Limits.{components-size}
 use Rattle.answers.specs.Answer.{accept-words, accepted}
 use Rattle.rounding.specs.Tables.{width}
-use Rattle.words.specs.Word.{kind, payload}
+use Rattle.words.specs.Word.{end-kind, kind, payload, sample-head-kind}
 use Rattle.sheet_checks.specs.Check.{word-at, blocks, size-of, has-head, body-cause, end-cause, cause-at}
 use Rattle.sheet_checks.proofs.Faults.{cause-body, cause-end}
 use Rattle.sheet_checks.proofs.Heads.{head-means, means-head}
@@ -22,18 +22,18 @@ use Rattle.sheets.proofs.Samples.{no-cause, no-fault}
 
 -- an end word without a fault
 
-end-means : (n w : ℕ) → end-cause n w ≡ 0 → (kind w ≡ 15) × (payload w ≡ n)
+end-means : (n w : ℕ) → end-cause n w ≡ 0 → (kind w ≡ end-kind) × (payload w ≡ n)
 unfolding end-cause
-end-means n w e = go (eqb (kind w) 15) (eqb (payload w) n) refl refl e
+end-means n w e = go (eqb (kind w) end-kind) (eqb (payload w) n) refl refl e
   where
-    go : (k p : Bool) → eqb (kind w) 15 ≡ k → eqb (payload w) n ≡ p → _≡_ {A = ℕ} (cond k (cond p 0 8) 7) 0 → (kind w ≡ 15) × (payload w ≡ n)
-    go true true k p e = (eqb-true (kind w) 15 k, eqb-true (payload w) n p)
+    go : (k p : Bool) → eqb (kind w) end-kind ≡ k → eqb (payload w) n ≡ p → _≡_ {A = ℕ} (cond k (cond p 0 8) 7) 0 → (kind w ≡ end-kind) × (payload w ≡ n)
+    go true true k p e = (eqb-true (kind w) end-kind k, eqb-true (payload w) n p)
     go true false k p e = absurd (omega arith)
     go false q k p e = absurd (omega arith)
 
-means-end : (n w : ℕ) → kind w ≡ 15 → payload w ≡ n → end-cause n w ≡ 0
+means-end : (n w : ℕ) → kind w ≡ end-kind → payload w ≡ n → end-cause n w ≡ 0
 unfolding end-cause
-means-end n w k p = rw (eq-eqb (kind w) 15 k, eq-eqb (payload w) n p)
+means-end n w k p = rw (eq-eqb (kind w) end-kind k, eq-eqb (payload w) n p)
 
 module _ (words : List ℕ) where
   abbrev last : ℕ
@@ -55,10 +55,10 @@ module _ (words : List ℕ) where
           let q : suc i < length words = omega arith in
           cause-body sample-format words i p q ∙ no-fault (word-at words i) (S .of-sample-kind i p q) (S .sample-range i p q)
 
-  pub sheet-of : T (has-head 1 words) → length words ≡ size-of (blocks words) → ((i : ℕ) → i < length words → cause-at sample-format words i ≡ 0)
+  pub sheet-of : T (has-head sample-head-kind words) → length words ≡ size-of (blocks words) → ((i : ℕ) → i < length words → cause-at sample-format words i ≡ 0)
       → SampleSheet words
   sheet-of h c none =
-      let (some, k, a, d, few) = head-means 1 words h in
+      let (some, k, a, d, few) = head-means sample-head-kind words h in
       let sample : (i : ℕ) → 0 < i → suc i < length words → body-cause sample-format (word-at words i) ≡ 0 =
       λ i p q. sym (cause-body sample-format words i p q) ∙ none i (omega arith) in
       let end = end-means (blocks words) (word-at words last) (sym (cause-end sample-format words last (omega arith) (omega arith)) ∙ none last (omega arith)) in
@@ -80,7 +80,7 @@ module _ (words : List ℕ) (b s o : ℕ) where
   accepts w S e l =
       no-cause-accepted words b s o (record {
         at-width = w;
-        head = means-head 1 words (S .some-words) (S .of-head-kind) (S .some-across) (S .some-down) (S .few-blocks);
+        head = means-head sample-head-kind words (S .some-words) (S .of-head-kind) (S .some-across) (S .some-down) (S .few-blocks);
         count = S .count;
         scratch-size = e;
         output-size = l;

@@ -17,6 +17,7 @@ use Rattle.answers.specs.Answer.{Returned, unless, unless-at, accept-words, acc
 use Rattle.answers.proofs.Accepted.{cause-passes, unless-accepted, unless-at-accepted, cause-accepted}
 use Rattle.transform.specs.Forward.{elements-of}
 use Rattle.rounding.specs.Tables.{width}
+use Rattle.words.specs.Word.{sample-head-kind}
 use Rattle.sheet_checks.specs.Check.{Searched, word-at, blocks, size-of, has-head, allowed-blocks, shape, cause-at, contents}
 use Rattle.sheet_checks.proofs.Faults.{cause-body}
 use Rattle.sheet_checks.proofs.Heads.{some-blocks, no-head, a-head}
@@ -32,21 +33,21 @@ module _ (words : List ℕ) (b s o : ℕ) where
     no-width t = rw (← e, not-true r t)
 
     -- at a width, n is what `blocks_of` answers
-    module _ (t : not r ≡ false) {n : ℕ} (f : n ≡ allowed-blocks 1 words) where
+    module _ (t : not r ≡ false) {n : ℕ} (f : n ≡ allowed-blocks sample-head-kind words) where
       at-width : width b ≡ true
       at-width = sym e ∙ not-false r t
 
       pub refused-head : n ≡ 0 → record { number = 6; place = 0 } ≡ sheet-returned words b s o
       unfolding sheet-returned shape
-      refused-head z = rw (at-width, no-head 1 words (sym f ∙ z))
+      refused-head z = rw (at-width, no-head sample-head-kind words (sym f ∙ z))
 
       -- past the head, n is the number of blocks
       module _ (some : n ≡ 0 → ⊥) where
-        head : has-head 1 words ≡ true
-        head = a-head 1 words (λ z. some (f ∙ z)) .0
+        head : has-head sample-head-kind words ≡ true
+        head = a-head sample-head-kind words (λ z. some (f ∙ z)) .0
 
         pub counted : n ≡ blocks words
-        counted = f ∙ a-head 1 words (λ z. some (f ∙ z)) .1
+        counted = f ∙ a-head sample-head-kind words (λ z. some (f ∙ z)) .1
 
         pub wrong-count : (length words ≡ size-of n → ⊥) → record { number = 7; place = length words } ≡ sheet-returned words b s o
         unfolding sheet-returned shape
@@ -80,7 +81,7 @@ module _ (words : List ℕ) (b s o : ℕ) where
 -- every cause, looked for and not there
 pub record NoCause (words : List ℕ) (b s o : ℕ) : Type 0 where
   pub at-width : T (width b)
-  pub head : T (has-head 1 words)
+  pub head : T (has-head sample-head-kind words)
   pub count : length words ≡ size-of (blocks words)
   pub scratch-size : s ≡ components-size
   pub output-size : length words ≤ o
@@ -99,7 +100,7 @@ module _ (words : List ℕ) (b s o : ℕ) where
   accepted-no-cause a =
       let counted = eqb (length words) (size-of (blocks words)) in
       let (w, past-width) = unless-accepted (width b) 2 (shape sample-format words past-shape) a in
-      let (h, past-head) = unless-accepted (has-head 1 words) 5 (unless-at (length words) counted 7 past-shape) past-width in
+      let (h, past-head) = unless-accepted (has-head sample-head-kind words) 5 (unless-at (length words) counted 7 past-shape) past-width in
       let (c, past-count) = unless-at-accepted (length words) counted 6 past-shape past-head in
       let (r, past-room) = unless-accepted room 0 (contents sample-format words (accept-words (length words))) past-count in
       let (none, done) = cause-accepted (length words) (cause-at sample-format words) (accept-words (length words)) past-room in
@@ -119,7 +120,7 @@ module _ (words : List ℕ) (b s o : ℕ) where
   no-cause-accepted N =
       rw (
         holds (width b) (N .at-width),
-        holds (has-head 1 words) (N .head),
+        holds (has-head sample-head-kind words) (N .head),
         eq-eqb (length words) (size-of (blocks words)) (N .count),
         eq-eqb s components-size (N .scratch-size),
         le-leb (length words) o (N .output-size),
@@ -132,7 +133,7 @@ module _ (words : List ℕ) (b s o : ℕ) where
       record {
         at-width = N .at-width;
         words-length = N .count;
-        some-block = some-blocks 1 words (N .head);
+        some-block = some-blocks sample-head-kind words (N .head);
         samples-in-range = λ i p q. no-cause (word-at words i) (sym (cause-body sample-format words i p q) ∙ N .no-fault i (omega arith)) .1;
         scratch-size = N .scratch-size;
         output-size = N .output-size;

@@ -21,7 +21,7 @@ use Rattle.transform.specs.Forward.{elements-of}
 use Rattle.accepted_sets.proofs.BlockSets.{block-set}
 use Rattle.rounding.specs.Rounding.{coefficients-of}
 use Rattle.rounding.proofs.Causes.{all-near}
-use Rattle.words.specs.Word.{across, down, kind, payload, payload-of, value, word}
+use Rattle.words.specs.Word.{across, coefficient-head-kind, coefficient-kind, down, kind, payload, payload-of, value, word}
 use Rattle.words.proofs.Packing.{kind-word, payload-word, payload-below, payload-of-below, small-in-range, value-of-payload}
 use Rattle.sheet_checks.specs.Check.{word-at, blocks}
 use Rattle.sheets.specs.Preconditions.{Checked}
@@ -61,23 +61,23 @@ module _ (words : List ℕ) (b : ℕ) (scratch : List ℤ) (output : List ℕ) (
       ∙ getD-table (length words) (output-word b words) 0 i h)
 
   -- the head has kind 4 and the same sizes
-  pub head-left : (kind (left-at 0) ≡ 4) × (across (left-at 0) ≡ across (word-at words 0)) × (down (left-at 0) ≡ down (word-at words 0))
+  pub head-left : (kind (left-at 0) ≡ coefficient-head-kind) × (across (left-at 0) ≡ across (word-at words 0)) × (down (left-at 0) ≡ down (word-at words 0))
   head-left =
       let head = word-at words 0 in
-      let e : left-at 0 ≡ word 4 (payload head) = word-left 0 (omega (arith, checked .words-length)) ∙ output-head b words in
-      let p = payload-word 4 (payload head) (payload-below head) in
-      (rw e (kind-word 4 (payload head) (payload-below head)), rw (e, p), rw (e, p))
+      let e : left-at 0 ≡ word coefficient-head-kind (payload head) = word-left 0 (omega (arith, checked .words-length)) ∙ output-head b words in
+      let p = payload-word coefficient-head-kind (payload head) (payload-below head) in
+      (rw e (kind-word coefficient-head-kind (payload head) (payload-below head)), rw (e, p), rw (e, p))
 
   -- coefficient p of block k has kind 3, and its value is the rounding at b of that block's element p
   pub coefficient-left : (k p : ℕ) → k < blocks words → p < places
-      → (kind (left-at (1 + places * k + p)) ≡ 3) × (value (payload (left-at (1 + places * k + p))) ≡ getD (block-coefficients b words k) p (pos 0))
+      → (kind (left-at (1 + places * k + p)) ≡ coefficient-kind) × (value (payload (left-at (1 + places * k + p))) ≡ getD (block-coefficients b words k) p (pos 0))
   coefficient-left k p h l =
       let z = getD (block-coefficients b words k) p (pos 0) in
       let range = small-in-range z (block-fit checked k h .small p l) in
       let below = payload-of-below z range in
       let room = block-words checked k h in
-      let e : left-at (1 + places * k + p) ≡ word 3 (payload-of z) = word-left (1 + places * k + p) (omega arith) ∙ output-body b words k p l room in
-      (rw e (kind-word 3 (payload-of z) below), rw (e, payload-word 3 (payload-of z) below) (value-of-payload z range))
+      let e : left-at (1 + places * k + p) ≡ word coefficient-kind (payload-of z) = word-left (1 + places * k + p) (omega arith) ∙ output-body b words k p l room in
+      (rw e (kind-word coefficient-kind (payload-of z) below), rw (e, payload-word coefficient-kind (payload-of z) below) (value-of-payload z range))
 
   -- and that value lies as near to half of the element as demand 3 asks
   pub near-left : (k p : ℕ) → k < blocks words → p < places

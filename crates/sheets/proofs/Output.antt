@@ -11,14 +11,14 @@ use Rattle.integers.specs.Table.{table, over}
 use Rattle.integers.proofs.Tables.{length-table, table-ext}
 use Rattle.integers.proofs.Overwriting.{table-append, over-none, over-more, over-lent}
 use Rattle.dct.specs.Limits.{places}
-use Rattle.words.specs.Word.{word, payload}
+use Rattle.words.specs.Word.{coefficient-head-kind, payload, word}
 use Rattle.sheet_checks.specs.Check.{word-at, size-of}
 use Rattle.sheets.specs.Preconditions.{after-blocks}
 use Rattle.sheets.specs.Sheet.{block-coefficients, coefficient-sheet, coefficient-word, output-word}
 
 -- the words of the output
 
-pub output-head : (b : ℕ) (words : List ℕ) → output-word b words 0 ≡ word 4 (payload (word-at words 0))
+pub output-head : (b : ℕ) (words : List ℕ) → output-word b words 0 ≡ word coefficient-head-kind (payload (word-at words 0))
 unfolding output-word
 output-head b words = refl
 
@@ -44,7 +44,7 @@ below p l h g = omega (arith, simp (length-append, length-drop) at h)
 
 module _ (b : ℕ) (words l : List ℕ) where
   -- the head
-  pub head-written : {w : ℕ} → 0 < length l → w ≡ word 4 (payload (word-at words 0)) → set l 0 w ≡ after-blocks b words 0 l
+  pub head-written : {w : ℕ} → 0 < length l → w ≡ word coefficient-head-kind (payload (word-at words 0)) → set l 0 w ≡ after-blocks b words 0 l
   head-written {w} h e =
       let f = output-word b words in
       ap (set l 0) (e ∙ sym (output-head b words)) ∙ ap (λ m. set m 0 (f 0)) (sym (over-none l)) ∙ over-more f 0 l h

@@ -1,16 +1,15 @@
 -- Every answer of the sheet job has its reason: "No refusal comes without its cause".
 -- Assumes nothing.
-use mathlib.Core.Path.{_≡_, refl, sym, _∙_}
+use mathlib.Core.Path.{_≡_, refl}
 use mathlib.Core.Bool.{Bool, true, false, cond, not, _&&_}
 use mathlib.Core.List.{List}
 use Prim.Native.Nat.{ℕ, zero, suc, _-_, _<_}
 use native.Mathlib.Decide.{ℕ-discrete}
 use native.Mathlib.Omega.{arith}
 use lib.Dec.{eqb, leb}
-use lib.IntN.{ℤ, pos, negsuc}
+use lib.IntN.{ℤ}
 use lib.ListN.{length}
-use lib.Signed.{ltZ}
-use borrow.Author.Tests.{eq-eqb, eqb-true, eqb-false, leb-false, not-true}
+use borrow.Author.Tests.{eq-eqb, eqb-true, eqb-false, leb-false}
 use Rattle.dct.specs.Limits.{components-size, in-range, sample-limit}
 use Rattle.answers.specs.Answer.{unless, unless-at, accept-words}
 use Rattle.answers.proofs.Accepted.{unless-either, cause-either}

@@ -19,10 +19,10 @@ pub const END: u32 = 15;
 const PAYLOADS: u32 = 268435456;
 
 // The values of a payload go from -2^27 to 2^27 - 1.
-const VALUE_LIMIT: u32 = 134217728;
+const VALUE_LIMIT: u32 = PAYLOADS / 2;
 
 // A negative value and its payload are 2^28 apart.
-const MODULUS: i32 = 268435456;
+const MODULUS: i32 = PAYLOADS as i32;
 
 // A size in a head has 14 bits.
 const SIZES: u32 = 16384;

@@ -4,6 +4,7 @@ use mathlib.Core.Path.{sym, _∙_}
 use native.Mathlib.Omega.{arith}
 use borrow.Author.Needs.{needs}
 use borrow.Author.Tests.{ne-eqb}
+use Rattle.words.specs.Word.{sample-head-kind}
 use Rattle.sheet_checks.proofs.Heads.{few-blocks}
 use Rattle.sheets.proofs.Causes.{no-width, refused-head, counted, wrong-count, wrong-scratch, short-output, faulty-word, no-fault}
 use Rattle.sheets.proofs.check.Statement.{statement}
@@ -26,7 +27,7 @@ returns-2 c =
 size-of-requires : tie.Need-size-of-requires
 size-of-requires c κs =
     let looked = c .before in
-    rw (looked .blocks-of .ensures) (few-blocks 1 (looked .before .before .before .before .args .words .now))
+    rw (looked .blocks-of .ensures) (few-blocks sample-head-kind (looked .before .before .before .before .args .words .now))
 
 returns-3 : tie.Need-returns-3
 returns-3 c =

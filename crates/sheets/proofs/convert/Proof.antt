@@ -5,7 +5,7 @@ use Prim.Native.Nat.{_-_}
 use native.Mathlib.Omega.{arith}
 use lib.ListN.{length, length-set}
 use borrow.Author.Needs.{needs}
-use Rattle.words.specs.Word.{word}
+use Rattle.words.specs.Word.{coefficient-head-kind, word}
 use Rattle.sheet_checks.specs.Check.{blocks}
 use Rattle.sheets.proofs.Output.{head-written, end-written}
 use Rattle.sheets.proofs.convert.Statement.{statement}
@@ -61,7 +61,7 @@ returns c =
     let checked = start .pre in
     let words = start .args .words .now in
     let l = start .args .output .now in
-    let head = head-written (start .args .b) words l (omega arith) (headed .with-payload .ensures ∙ ap (word 4) (headed .before .payload .ensures)) in (
+    let head = head-written (start .args .b) words l (omega arith) (headed .with-payload .ensures ∙ ap (word coefficient-head-kind) (headed .before .payload .ensures)) in (
       called .all-blocks .ensures .0,
       rw (called .all-blocks .ensures .1 .over-any l head)
           (end-written (start .args .b) words l (blocks words) (length words - 1) (checked .words-length) (checked .output-size) (omega arith)),

@@ -11,7 +11,7 @@ use mir.Facts.{toZ-ofZ}
 use borrow.Author.Needs.{needs}
 use Rattle.integers.proofs.Overwriting.{Begun, begun-none, begun-more, begun-length, begun-all}
 use Rattle.dct.specs.Limits.{places}
-use Rattle.words.specs.Word.{payload-of, word}
+use Rattle.words.specs.Word.{coefficient-kind, payload-of, word}
 use Rattle.sheets.specs.Sheet.{coefficient-word}
 use Rattle.sheets.proofs.store.Statement.{statement}
 use Rattle.sheets.proofs.store.Tie as tie
@@ -55,7 +55,7 @@ loop-again c =
     let at = c .before .before .before in
     let z = getD (at .before .before .args .t1) (at .loop .i) (pos 0) in
     let read : toZ w32 (ofZ w32 z) ≡ z = toZ-ofZ (search needs) in
-    begun-more (omega arith) (at .loop .inv) (c .with-value .ensures ∙ ap (λ z. word 3 (payload-of z)) read)
+    begun-more (omega arith) (at .loop .inv) (c .with-value .ensures ∙ ap (λ z. word coefficient-kind (payload-of z)) read)
 
 same-length : tie.Need-same-length Inv-loop μ-loop
 same-length c = begun-length (c .before .loop .inv)
