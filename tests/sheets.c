@@ -23,6 +23,7 @@
 #define COUNT(array) (sizeof(array) / sizeof(array)[0])
 
 enum { LIMIT = 32780, MOST_BLOCKS = 128, WIDTH = 26, ROOM = 40000 };
+enum { LOWEST = -2048, HIGHEST = 2047 }; /* of samples */
 enum { SAMPLE_HEAD = 1, SAMPLE = 2, COEFFICIENT = 3, COEFFICIENT_HEAD = 4, END = 15 };
 enum { FROM_FILE = 0, AT_ONCE = ROOM }; /* besides the lengths of pieces in which an input is fed */
 enum pattern { ANY, EXTREMES, RAMP, PATTERNS };
@@ -155,7 +156,7 @@ static Answer fault(uint32_t w, size_t i, int is_end, uint32_t blocks) {
     uint32_t number = 0;
     if (kind(w) != (is_end ? END : SAMPLE)) number = 7;
     else if (is_end) number = payload(w) != blocks ? 8 : 0;
-    else number = value(w) < -2048 || value(w) > 2047 ? 2 : 0;
+    else number = value(w) < LOWEST || value(w) > HIGHEST ? 2 : 0;
     return (Answer){number, i};
 }
 
@@ -231,6 +232,7 @@ static void collect(int pipe_end) {
 static void become_program(int in, const int *out, int feeding_end) {
     dup2(in, 0);
     dup2(out[1], 1);
+    dup2(out[1], 2); /* nothing is to be written there */
     close(out[0]);
     close(out[1]);
     if (feeding_end >= 0) close(feeding_end);
@@ -256,10 +258,11 @@ static void run(const Bytes *input, size_t piece) {
     if (piece != FROM_FILE) {
         close(in[0]);
         feed(in[1], input, piece);
-        close(in[1]);
+        if (input->length < LIMIT) close(in[1]); /* at the limit the program ends by itself: it is not to wait for more */
     }
     collect(out[0]);
     close(out[0]);
+    if (piece != FROM_FILE && input->length >= LIMIT) close(in[1]);
     expect(waitpid(child, &status, 0) == child && WIFEXITED(status) && WEXITSTATUS(status) == 0, "the program does not start, or does not end as it should");
     if (piece == FROM_FILE) expect(lseek(in[0], 0, SEEK_CUR) <= LIMIT, "the program reads more than 32,780 bytes");
 }
@@ -327,8 +330,8 @@ static void make_sheet(Bytes *sheet, uint32_t a, uint32_t d, enum pattern patter
     for (uint32_t n = 0; n < 64 * a * d; n++) {
         int32_t x = (int32_t)(n / 64 % a * 8 + n % 8), y = (int32_t)(n / 64 / a * 8 + n % 64 / 8);
         int32_t ramp = middle + slope_x * x / 4 + slope_y * y / 4;
-        int32_t held = ramp < -2048 ? -2048 : ramp > 2047 ? 2047 : ramp;
-        append(sheet, make_word(SAMPLE, pattern == ANY ? any(-2048, 2047) : pattern == RAMP ? held : any(0, 1) ? 2047 : -2048));
+        int32_t held = ramp < LOWEST ? LOWEST : ramp > HIGHEST ? HIGHEST : ramp;
+        append(sheet, make_word(SAMPLE, pattern == ANY ? any(LOWEST, HIGHEST) : pattern == RAMP ? held : any(0, 1) ? HIGHEST : LOWEST));
     }
     append(sheet, make_word(END, a * d));
 }
@@ -401,7 +404,8 @@ static void films(void) {
 }
 
 /* sheets that are accepted: every pair of sizes, the largest of each form and pattern, every sample in range */
-static void accepted_sheets(void) {
+/* every pair of sizes, with a sample out of range and a word more besides; the largest sheets; every sample */
+static void all_sizes(void) {
     Bytes sheet;
     for (uint32_t a = 1; a <= MOST_BLOCKS; a++)
         for (uint32_t d = 1; a * d <= MOST_BLOCKS; d++) {
@@ -409,6 +413,10 @@ static void accepted_sheets(void) {
             begin("%u by %u blocks, pattern %u", (unsigned)a, (unsigned)d, (unsigned)pattern);
             make_sheet(&sheet, a, d, pattern);
             check_answer(&sheet, 0, 2 + 64 * a * d);
+            size_t i = (size_t)any(1, (int32_t)(64 * a * d));
+            check_with(&sheet, i, make_word(SAMPLE, HIGHEST + 1), 2, i);
+            set_length(&sheet, sheet.length + 4);
+            check_with(&sheet, 0, word(&sheet, 0), 7, 3 + 64 * a * d);
         }
     for (enum pattern pattern = 0; pattern < PATTERNS; pattern++)
         for (uint32_t a = 1; a <= MOST_BLOCKS; a *= 2) {
@@ -418,15 +426,27 @@ static void accepted_sheets(void) {
         }
     begin("every sample in range");
     make_column(&sheet, 64);
-    for (size_t n = 0; n < 4096; n++) put(&sheet, 1 + n, make_word(SAMPLE, (int64_t)(n * 1371 % 4096) - 2048));
+    for (size_t n = 0; n < 4096; n++) put(&sheet, 1 + n, make_word(SAMPLE, (int64_t)(n * 1371 % 4096) + LOWEST));
     check_answer(&sheet, 0, 4098);
+}
+
+/* for each place the block whose coefficient there is the highest of all, and the one whose is the lowest */
+static void extreme_coefficients(void) {
+    Bytes sheet;
+    make_column(&sheet, 128);
+    begin("the highest and the lowest coefficient at each place");
+    for (size_t n = 0; n < 64 * 128; n++) {
+        int positive = eighths[n / 64 % 64][n % 64] > 0, lowest = n >= 64 * 64;
+        put(&sheet, 1 + n, make_word(SAMPLE, positive != lowest ? HIGHEST : LOWEST));
+    }
+    check_answer(&sheet, 0, 8194);
 }
 
 /* Two column sums for which N at (0,1) is a half: 2^b more than a multiple of 2^(b+1). A column sum of 1 adds its weight to N. */
 static int find_half(const int64_t *weight, int32_t *sum) {
     int64_t half = (int64_t)1 << WIDTH;
-    for (sum[0] = 0; sum[0] <= 8 * 2047; sum[0]++)
-        for (sum[1] = 0; sum[1] <= 8 * 2047; sum[1]++)
+    for (sum[0] = 0; sum[0] <= 8 * HIGHEST; sum[0]++)
+        for (sum[1] = 0; sum[1] <= 8 * HIGHEST; sum[1]++)
             if ((sum[0] * weight[0] + sum[1] * weight[1]) % (2 * half) == half) return 1;
     return 0;
 }
@@ -489,8 +509,8 @@ static void kinds(void) {
 
 /* samples about the limits and at the ends of the payload, and the end word's number */
 static void values(void) {
-    static const int32_t out[] = {2048, -2049, 2049, 4095, 4096, 65536 + 5, -4096, (1 << 27) - 1, -(1 << 27), 1 << 26, -(1 << 26)};
-    static const int32_t within[] = {2047, -2048, 0, -1};
+    static const int32_t out[] = {HIGHEST + 1, LOWEST - 1, HIGHEST + 2, 4095, 4096, 65536 + 5, -4096, (1 << 27) - 1, -(1 << 27), 1 << 26, -(1 << 26)};
+    static const int32_t within[] = {HIGHEST, LOWEST, 0, -1};
     Bytes sheet;
     for (size_t c = 0; c < COUNT(some_counts); c++) {
         uint32_t blocks = some_counts[c];
@@ -511,8 +531,8 @@ static void every_place(void) {
     make_column(&sheet, 2);
     for (size_t i = 1; i <= 128; i++) {
         check_with(&sheet, i, make_word(COEFFICIENT, 5), 7, i);
-        check_with(&sheet, i, make_word(SAMPLE, i % 2 ? 2048 : -2049), 2, i);
-        check_with(&sheet, i, make_word(END, 2048), 7, i);
+        check_with(&sheet, i, make_word(SAMPLE, i % 2 ? HIGHEST + 1 : LOWEST - 1), 2, i);
+        check_with(&sheet, i, make_word(END, HIGHEST + 1), 7, i);
     }
     check_with(&sheet, 129, make_word(SAMPLE, 3), 7, 129);
     check_with(&sheet, 129, make_word(SAMPLE, 2), 7, 129);
@@ -549,7 +569,7 @@ static void counts(void) {
             make_column(&sheet, blocks);
             set_length(&sheet, 4 * count);
             check_with(&sheet, 0, word(&sheet, 0), 7, seen);
-            check_with(&sheet, 1, make_word(SAMPLE, 2048), 7, seen);
+            check_with(&sheet, 1, make_word(SAMPLE, HIGHEST + 1), 7, seen);
             check_with(&sheet, 2, make_word(COEFFICIENT, 0), 7, seen);
             check_with(&sheet, count - 1, make_word(END, blocks), 7, seen);
             check_with(&sheet, 0, make_head(COEFFICIENT_HEAD, 1, blocks), 6, 0);
@@ -690,7 +710,8 @@ int main(int argc, char **argv) {
     make_tables();
     films();
     for (int n = 2; n < argc; n++) read_example(argv[n]);
-    accepted_sheets();
+    all_sizes();
+    extreme_coefficients();
     halves();
     sizes();
     kinds();

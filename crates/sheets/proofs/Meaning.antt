@@ -1,4 +1,4 @@
--- What the definitions of the sheet job mean: which calls are accepted, and what an accepted one leaves, word by word.
+-- What a call of the sheet job leaves, word by word.
 -- Assumes nothing.
 use mathlib.Core.Path.{_≡_, sym, ap, ap₂, _∙_}
 use mathlib.Core.Bool.{false}

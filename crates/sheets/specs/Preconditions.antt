@@ -1,4 +1,4 @@
--- What the functions behind `sheet` ask: that its causes of refusal were ruled out.
+-- What the functions behind `sheet` ask, which is that its causes of refusal were ruled out, and what the loop over blocks leaves.
 use mathlib.Core.Path.{_≡_}
 use mathlib.Core.Bool.{true}
 use mathlib.Core.List.{List}
