@@ -1,7 +1,7 @@
 -- The samples of a sheet that was checked are in range, and the coefficients of its blocks are such as words can hold.
 -- Assumes nothing.
-use mathlib.Core.Path.{_≡_, refl, ap, _∙_}
-use mathlib.Core.Bool.{Bool, true, false, cond, not}
+use mathlib.Core.Path.{_≡_, refl, sym, ap, _∙_, subst}
+use mathlib.Core.Bool.{Bool, true, false, cond, not, _||_}
 use mathlib.Core.List.{List}
 use Prim.Native.Nat.{ℕ, _+_, _-_, _*_, _<_}
 use native.Mathlib.Nat.{lt-of-le-of-lt}
@@ -9,6 +9,7 @@ use native.Mathlib.Omega.{arith}
 use lib.Dec.{T, eqb, lit<}
 use lib.IntN.{ℤ, pos}
 use lib.ListN.{length}
+use lib.Signed.{ltZ}
 use borrow.Author.Tests.{eq-eqb, eqb-true}
 use Rattle.integers.proofs.Tables.{getD-table, length-table}
 use Rattle.dct.specs.Limits.{places, components-size, in-range, sample-limit}
@@ -35,13 +36,15 @@ module _ (w : ℕ) where
 
   pub no-cause : body-cause sample-format w ≡ 0 → (kind w ≡ sample-kind) × (in-range v ≡ true)
   unfolding body-cause
-  no-cause e = go (eqb (kind w) sample-kind) (in-range v) refl refl (rw (outside-range M v) at e)
+  no-cause e =
+      go (eqb (kind w) sample-kind) (ltZ v (sample-format .lowest) || ltZ (sample-format .highest) v) (in-range v) refl (outside-range M v) refl e
     where
-      go : (k r : Bool) → eqb (kind w) sample-kind ≡ k → in-range v ≡ r → _≡_ {A = ℕ} (cond k (cond (not r) 2 0) 7) 0
+      go : (k out r : Bool) → eqb (kind w) sample-kind ≡ k → out ≡ not (in-range v) → in-range v ≡ r → _≡_ {A = ℕ} (cond k (cond out 2 0) 7) 0
           → (kind w ≡ sample-kind) × (in-range v ≡ true)
-      go true true k r e = (eqb-true (kind w) sample-kind k, r)
-      go true false k r e = absurd (omega arith)
-      go false q k r e = absurd (omega arith)
+      go true out true k o r e = (eqb-true (kind w) sample-kind k, r)
+      go true true false k o r e = absurd (omega arith)
+      go true false false k o r e = absurd (subst T (sym (o ∙ ap not r)) tt)
+      go false out q k o r e = absurd (omega arith)
 
   pub no-fault : kind w ≡ sample-kind → in-range v ≡ true → body-cause sample-format w ≡ 0
   unfolding body-cause
