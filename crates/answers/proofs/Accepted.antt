@@ -13,11 +13,8 @@ use Rattle.answers.specs.Answer.{Returned, unless-at, unless, lowest, lo
 
 -- no cause: the next one is asked
 
-pub unless-at-passes : (p : ℕ) (t : Bool) (n : ℕ) (next : Returned) → T t → unless-at p t n next ≡ next
-unless-at-passes p true n next h = refl
-
 pub unless-passes : (t : Bool) (n : ℕ) (next : Returned) → T t → unless t n next ≡ next
-unless-passes = unless-at-passes 0
+unless-passes true n next h = refl
 
 pub lowest-passes : (size : ℕ) (faulty : ℕ → Bool) (n : ℕ) (next : Returned) → ((i : ℕ) → i < size → faulty i ≡ false) → lowest size faulty n next ≡ next
 lowest-passes size faulty n next h = rw (first-none size faulty (record { room = le-refl size; fails = h }), le-ltb size size (le-refl size))
@@ -43,32 +40,9 @@ lowest-accepted size faulty n next h = go (ltb (first size faulty) size) refl h
     go true e h = absurd (rw (not-zero n) at h)
     go false e h = ((λ i l. before-first size faulty i (lt-of-lt-of-le l (ltb-false (first size faulty) size e))), h)
 
--- the same of a cause at each index
-
 pub cause-passes : (size : ℕ) (cause : ℕ → ℕ) (next : Returned) → ((i : ℕ) → i < size → cause i ≡ 0) → lowest-cause size cause next ≡ next
 cause-passes size cause next h =
     lowest-passes size (λ i. ltb 0 (cause i)) (cause (first size (λ i. ltb 0 (cause i)))) next (λ i l. rw (h i l))
-
-pub cause-accepted : (size : ℕ) (cause : ℕ → ℕ) (next : Returned) → T (accepted (lowest-cause size cause next))
-    → ((i : ℕ) → i < size → cause i ≡ 0) × T (accepted next)
-cause-accepted size cause next h = go (ltb at size) refl h
-  where
-    at : ℕ
-    at = first size (λ i. ltb 0 (cause i))
-
-    go : (t : Bool) → ltb at size ≡ t → T (accepted (cond t (record { number = cause at; place = at }) next))
-        → ((i : ℕ) → i < size → cause i ≡ 0) × T (accepted next)
-    go true e h =
-        let above : 0 < cause at = ltb-true 0 (cause at) (at-first size (λ i. ltb 0 (cause i)) (ltb-true at size e)) in
-        let none : cause at ≡ 0 = eqb→eq (cause at) 0 h in
-        absurd (omega arith)
-    go false e h = (
-      (λ i l.
-          let none = before-first size (λ i. ltb 0 (cause i)) i (lt-of-lt-of-le l (ltb-false at size e)) in
-          let small = ltb-false 0 (cause i) none in
-          omega arith),
-      h,
-    )
 
 -- a refusal has its cause: the place that `lowest` names is faulty, and none below it is
 
@@ -104,6 +78,12 @@ module _ (P : Returned → Type 0) where
           let none = before-first size (λ i. ltb 0 (cause i)) i (lt-of-lt-of-le l (ltb-false at size e)) in
           let small = ltb-false 0 (cause i) none in
           omega arith)
+
+pub cause-accepted : (size : ℕ) (cause : ℕ → ℕ) (next : Returned) → T (accepted (lowest-cause size cause next))
+    → ((i : ℕ) → i < size → cause i ≡ 0) × T (accepted next)
+cause-accepted size cause next =
+    cause-either (λ r. T (accepted r) → ((i : ℕ) → i < size → cause i ≡ 0) × T (accepted next)) size cause next
+    (λ i l before above h. let zero : cause i ≡ 0 = eqb→eq (cause i) 0 h in absurd (omega arith)) (λ none h. (none, h))
 
 -- what it leaves
 

@@ -3,13 +3,11 @@
 use mathlib.Core.Path.{_≡_, refl, ap, _∙_}
 use Prim.Native.Nat.{ℕ, suc, _+_, _-_, _*_, _^_, _≤_, _<_, zero-le}
 use native.Mathlib.Decide.{decLt}
-use native.Mathlib.Nat.{lt-of-le-of-lt, lt-trans}
+use native.Mathlib.Nat.{lt-of-le-of-lt}
 use native.Mathlib.Omega.{arith}
 use lib.Dec.{ltb→lt, leb→le, lit<, lt→ltb, le→leb}
 use lib.IntN.{ℤ, pos, negsuc, _-ℤ_, negℤ, natAbs}
-use lib.Signed.{_≤ℤ_, _<ℤ_, mag, natAbs-le}
-use mir.Syntax.{w32}
-use mir.Val.{SFits}
+use lib.Signed.{_≤ℤ_, _<ℤ_, mag}
 use borrow.Author.Tests.{lt-ltb, le-ltb}
 use Rattle.words.specs.Word.{payloads, kind, payload, word, value-limit, value, payload-of, across, down}
 
@@ -102,9 +100,3 @@ value-in-range p l = go (decLt p value-limit)
     go (yes h) = rw (value-low p h) (small-in-range (pos p) h)
     go (no h) =
         rw (value-negsuc p (omega arith) l) (record { le = le→leb (payloads - suc p) (value-limit - 1) (omega arith) }, record { lt = tt })
-
-pub value-small : (p : ℕ) → p < payloads → natAbs (value p) ≤ value-limit
-value-small p l = natAbs-le (value p) (in-range-mag (value p) (value-in-range p l))
-
-pub value-fits : (p : ℕ) → p < payloads → SFits w32 (value p)
-value-fits p l = record { sfits = lt-trans (in-range-mag (value p) (value-in-range p l)) (lit< tt) }
