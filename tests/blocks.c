@@ -1,265 +1,464 @@
-/* Holds forward, back and rounding, compiled, to a second program that is made from T.81's formula (ITU-T T.81, A.3.3) and not from theirs:
- * - each element of a block: its components by exact double sums over c_(a+b) + c_(a-b), and its value to 16·S(u,v) in long double;
- * - the way back, of blocks' sets, of sets one unit away from them, of sums of them and of others: the block that T.81's inverse formula gives in
- *   long double, rounded, if it is in range and has these elements by the exact double sums; otherwise 5, and 4 before it;
- * - each coefficient, of blocks and of other accepted sets: the number of 01's formula, with table numbers rounded from the cosines
- *   themselves, and its distance from half the element's value;
- * - refusals: the number, and the buffer as it was. */
+/* Holds forward, back and rounding of the library to the second program, call by call: the answer, and every buffer with the guard numbers about it.
+ * The elements are besides held to T.81's DCT values, and the coefficients to 01's distance from half of the elements' values. */
+#include "weld_dct.h"
+#include "cases.h"
 #include <math.h>
-#include <stdint.h>
 #include <stdio.h>
-#include <stdlib.h>
 #include <string.h>
 
-uint32_t block_forward(const int32_t *samples, size_t samples_count, int32_t *elements, size_t elements_count);
-uint32_t block_back(const int32_t *elements, size_t elements_count, int32_t *samples, size_t samples_count);
-uint32_t block_round(const int32_t *elements, size_t elements_count, uint32_t b, int32_t *coefficients, size_t coefficients_count);
+enum { FORWARD, BACK, ROUND, JOBS };
+enum { LENGTHS = 9 };
 
-static const uint32_t widths[3] = {11, 20, 26};
-static long double pi, cosine[8][8]; /* cosine[k][n] = C(k) · cos((2n+1)·k·π/16) */
-static uint64_t state = 88172645463325252u;
-static int sets_back;
+static const char *const jobs[JOBS] = {"forward", "back", "round"};
+static int answered[JOBS][ANSWERS];
+static Pair given, left; /* the buffers of the last call: the one that is read, and the one that is written */
+static const int32_t *const came = left.library + GUARD;
+static int32_t elements[SET]; /* the library's, of the last block */
 
-static void expect(int holds, const char *what) {
-    if (!holds) {
-        printf("blocks: %s\n", what);
-        exit(1);
+static Answer settle(int job, Answer wanted, struct weld_dct_answer answer) {
+    expect_answer(jobs[job], wanted, answer.number, answer.place);
+    compare(&given, jobs[job]);
+    compare(&left, jobs[job]);
+    answered[job][wanted.number]++;
+    return wanted;
+}
+
+static Answer check_forward(const int32_t *samples, size_t n, size_t m) {
+    fill(&given, "samples", samples, BLOCK, n);
+    fill(&left, "elements", NULL, 0, m);
+    Answer wanted = second_forward(given.second + GUARD, n, left.second + GUARD, m);
+    return settle(FORWARD, wanted, weld_dct_forward(given.library + GUARD, n, left.library + GUARD, m));
+}
+
+static Answer check_back(const int32_t *set, size_t n, size_t m) {
+    fill(&given, "elements", set, SET, n);
+    fill(&left, "samples", NULL, 0, m);
+    Answer wanted = second_back(given.second + GUARD, n, left.second + GUARD, m);
+    return settle(BACK, wanted, weld_dct_back(given.library + GUARD, n, left.library + GUARD, m));
+}
+
+static Answer check_round(const int32_t *set, size_t n, uint32_t b, size_t m) {
+    fill(&given, "elements", set, SET, n);
+    fill(&left, "coefficients", NULL, 0, m);
+    Answer wanted = second_round(given.second + GUARD, n, b, left.second + GUARD, m);
+    settle(ROUND, wanted, weld_dct_round(given.library + GUARD, n, b, left.library + GUARD, m));
+    for (int p = 0; wanted.number == ACCEPTED && p < BLOCK; p++)
+        expect(within_distance(came[p], element_value(set + 8 * p) / 2, b), "at b = %u the coefficient %d at %d is too far from half of the value",
+               (unsigned)b, (int)came[p], p);
+    return wanted;
+}
+
+/* the number of the answer, of calls with the lengths that are asked for */
+static uint32_t forward_number(const int32_t *samples) { return check_forward(samples, BLOCK, SET).number; }
+static uint32_t back_number(const int32_t *set) { return check_back(set, SET, BLOCK).number; }
+static uint32_t round_number(const int32_t *set, uint32_t b) { return check_round(set, SET, b, BLOCK).number; }
+
+static void make_set(const int32_t *samples, int32_t *set) {
+    expect(forward_number(samples) == ACCEPTED, "forward refuses a block in range");
+    memcpy(set, came, SET * sizeof set[0]);
+}
+
+static void round_at_all(const int32_t *set) {
+    for (int w = 0; w < WIDTHS; w++) expect(round_number(set, widths[w]) == ACCEPTED, "round refuses an accepted set");
+}
+
+/* forward, T.81's values, rounding at each width, and the way back */
+static void check_block(const int32_t *samples) {
+    make_set(samples, elements);
+    for (int p = 0; p < BLOCK; p++)
+        expect(fabsl(element_value(elements + 8 * p) - 16 * T81(samples, p)) < 1e-9L, "the element at %d is not sixteen times T.81's DCT value", p);
+    round_at_all(elements);
+    expect(back_number(elements) == ACCEPTED, "back refuses a block's set");
+    expect(memcmp(came, samples, BLOCK * sizeof samples[0]) == 0, "a block's set goes back to another block");
+}
+
+/* 01's films, with the numbers that stand there. */
+
+static void film_of_one_level(int32_t sample, int32_t u_0, int32_t coefficient) {
+    int32_t samples[BLOCK], others = 0;
+    begin("01's film of all %d", (int)sample);
+    for (int q = 0; q < BLOCK; q++) samples[q] = sample;
+    check_block(samples);
+    for (int n = 1; n < SET; n++) others += elements[n] != 0;
+    expect(elements[0] == u_0 && others == 0, "u_0 is %d, and %d other components are not 0", (int)elements[0], (int)others);
+    for (int w = 0; w < WIDTHS; w++) {
+        round_number(elements, widths[w]);
+        expect(came[0] == coefficient, "the coefficient is %d, expected is %d", (int)came[0], (int)coefficient);
     }
 }
 
-/* a number from low to high */
-static int32_t any(int32_t low, int32_t high) {
-    state ^= state << 13;
-    state ^= state >> 7;
-    state ^= state << 17;
-    return (int32_t)(low + (int64_t)(state % (uint64_t)((int64_t)high - low + 1)));
+static void film_of_one_sample(void) {
+    static const struct { int p; int32_t u[8]; } expected[] = {{0, {2}}, {1, {0, 0, 0, 1, 0, 1}}, {9, {2, 0, 1}}, {15, {0, 0, 0, 0, 0, 0, 1}}};
+    int32_t samples[BLOCK] = {1};
+    begin("01's film of one sample");
+    check_block(samples);
+    for (size_t n = 0; n < COUNT(expected); n++)
+        expect(memcmp(elements + 8 * expected[n].p, expected[n].u, sizeof expected[n].u) == 0, "the element at %d is another", expected[n].p);
+    round_number(elements, 11);
+    expect(came[1] == 1 && came[9] == 2 && came[63] == 0, "the coefficients are %d, %d, %d", (int)came[1], (int)came[9], (int)came[63]);
 }
 
-/* adds x·c_m to an element: m is brought to 0..31, then to 0..16, then to 0..8, by the cosine's own symmetries */
-static void add_cosine(int64_t *u, int x, int m) {
-    m = ((m % 32) + 32) % 32;
-    if (m > 16) m = 32 - m;
-    if (m > 8) { m = 16 - m; x = -x; }
-    if (m == 0) u[0] += 2 * (int64_t)x;
-    else if (m < 8) u[m] += x;
+/* one component alone, at (0,0): the answers of rounding and back, and the coefficient of an accepted one */
+static void film_of_one_component(int k, int32_t component, uint32_t b, uint32_t rounded, int32_t coefficient, uint32_t returned) {
+    int32_t set[SET] = {0};
+    begin("01's film of u_%d = %d, b = %u", k, (int)component, (unsigned)b);
+    set[k] = component;
+    uint32_t number = round_number(set, b);
+    expect(number == rounded, "round answers %u", (unsigned)number);
+    expect(number != ACCEPTED || came[0] == coefficient, "the coefficient is %d, expected is %d", (int)came[0], (int)coefficient);
+    number = back_number(set);
+    expect(number == returned, "back answers %u", (unsigned)number);
 }
 
-static long double value(const int32_t *u) {
-    long double sum = u[0];
-    for (int k = 1; k < 8; k++) sum += u[k] * 2 * cosl(k * pi / 16);
-    return sum;
+static void films(void) {
+    int32_t samples[BLOCK] = {0};
+    film_of_one_level(1, 128, 64);
+    film_of_one_level(-2048, -262144, -131072);
+    film_of_one_level(2047, 262016, 131008);
+    film_of_one_sample();
+    film_of_one_component(2, 256, 11, 0, 237, 5);
+    film_of_one_component(2, -256, 11, 0, -236, 5);
+    for (int w = 0; w < WIDTHS; w++) {
+        film_of_one_component(0, 262144, widths[w], 0, 131072, 5);
+        film_of_one_component(0, 262145, widths[w], 4, 0, 4);
+        film_of_one_component(0, 1, widths[w], 0, 1, 5);
+    }
+    for (int sign = 0; sign < 2; sign++) {
+        begin("01's film of a sample out of range");
+        samples[7] = sign ? -2049 : 2048;
+        Answer answer = check_forward(samples, BLOCK, SET);
+        expect(answer.number == 2 && answer.place == 7, "forward answers %u at %zu", (unsigned)answer.number, answer.place);
+    }
 }
 
-static long double T81(const int32_t *s, int u, int v) {
-    long double sum = 0;
-    for (int i = 0; i < 8; i++)
-        for (int j = 0; j < 8; j++) sum += s[8 * i + j] * cosine[u][i] * cosine[v][j];
-    return sum / 4;
+/* Blocks. */
+
+/* The highest and the lowest coefficient at each place; at (0,0), (0,7), (7,0) and (7,7) these are blocks of one level, stripes and checkerboards. */
+static void extremes(void) {
+    int32_t samples[BLOCK];
+    for (int n = 0; n < 2 * BLOCK; n++) {
+        begin("the %s coefficient at %d", n % 2 ? "lowest" : "highest", n / 2);
+        make_extreme(samples, n / 2, n % 2);
+        check_block(samples);
+    }
 }
 
-/* the eight components of the element at (u,v), by the double sum */
-static void double_sum(const int32_t *s, int u, int v, int64_t *exact) {
-    memset(exact, 0, 8 * sizeof exact[0]);
-    for (int i = 0; i < 8; i++)
-        for (int j = 0; j < 8; j++) {
-            int a = u == 0 ? 4 : (2 * i + 1) * u, b = v == 0 ? 4 : (2 * j + 1) * v;
-            add_cosine(exact, s[8 * i + j], a + b);
-            add_cosine(exact, s[8 * i + j], a - b);
+static void impulses(void) {
+    static const int32_t heights[] = {1, -1, HIGHEST, LOWEST};
+    int32_t samples[BLOCK] = {0};
+    for (size_t n = 0; n < COUNT(heights) * BLOCK; n++) {
+        size_t q = n / COUNT(heights);
+        begin("%d alone at %zu", (int)heights[n % COUNT(heights)], q);
+        samples[q] = heights[n % COUNT(heights)];
+        check_block(samples);
+        samples[q] = 0;
+    }
+}
+
+/* across, down and along the diagonal, up from the lowest sample and down from the highest */
+static void ramps(void) {
+    static const int32_t slopes[] = {1, 2, 3, 16, 37, 128, 255, 292};
+    int32_t samples[BLOCK];
+    for (size_t n = 0; n < COUNT(slopes) * 6; n++) {
+        int32_t slope = slopes[n / 6];
+        int x = n % 3 != 1, y = n % 3 != 0, falls = n % 6 > 2;
+        begin("ramp of %d, %d across, %d down, %s", (int)slope, x, y, falls ? "falling" : "rising");
+        for (int q = 0; q < BLOCK; q++) {
+            int32_t height = slope * (x * (q % 8) + y * (q / 8));
+            samples[q] = falls ? HIGHEST - height : LOWEST + height;
         }
-}
-
-static int has_elements(const int32_t *s, const int32_t *elements) {
-    for (int p = 0; p < 64; p++) {
-        int64_t exact[8];
-        double_sum(s, p / 8, p % 8, exact);
-        for (int k = 0; k < 8; k++)
-            if (elements[8 * p + k] != exact[k]) return 0;
-    }
-    return 1;
-}
-
-static void check_elements(const int32_t *s, const int32_t *elements) {
-    expect(has_elements(s, elements), "a component differs from the double sum");
-    for (int p = 0; p < 64; p++)
-        expect(fabsl(value(elements + 8 * p) - 16 * T81(s, p / 8, p % 8)) < 1e-9L, "an element is not sixteen times the DCT value");
-}
-
-/* what back has to answer, and the block: T.81's inverse formula, s(i,j) = 1/4 · sum over u, v of C(u) · C(v) · S(u,v) · cos(..) · cos(..) */
-static uint32_t second_back(const int32_t *elements, int32_t *s) {
-    long double S[64];
-    for (int p = 0; p < 64; p++) {
-        int64_t magnitudes = 0;
-        for (int k = 0; k < 8; k++) magnitudes += llabs((long long)elements[8 * p + k]);
-        if (magnitudes > 262144) return 4;
-        S[p] = value(elements + 8 * p) / 16;
-    }
-    for (int q = 0; q < 64; q++) {
-        long double sum = 0;
-        for (int p = 0; p < 64; p++) sum += S[p] * cosine[p / 8][q / 8] * cosine[p % 8][q % 8];
-        s[q] = (int32_t)lroundl(sum / 4);
-        if (s[q] < -2048 || s[q] > 2047) return 5;
-    }
-    return has_elements(s, elements) ? 0 : 5;
-}
-
-/* back of a set that the second program may accept or not; a refused call leaves the buffer as it was */
-static uint32_t check_back(const int32_t *elements) {
-    int32_t samples[64], left[64], before[64];
-    for (int q = 0; q < 64; q++) left[q] = before[q] = any(INT32_MIN, INT32_MAX);
-    uint32_t answer = second_back(elements, samples);
-    sets_back++;
-    expect(block_back(elements, 512, left, 64) == answer, "back answers otherwise than the second program");
-    expect(memcmp(left, answer == 0 ? samples : before, sizeof left) == 0, "back leaves another block than the second program's");
-    return answer;
-}
-
-static void check_coefficients(const int32_t *elements, uint32_t b, const int32_t *coefficients) {
-    for (int p = 0; p < 64; p++) {
-        const int32_t *u = elements + 8 * p;
-        int64_t N = u[0] * ((int64_t)1 << b);
-        for (int k = 1; k < 8; k++) N += llroundl(ldexpl(2 * cosl(k * pi / 16), (int)b)) * u[k];
-        expect(coefficients[p] == (int32_t)floorl(ldexpl((long double)N + ldexpl(1, (int)b), -(int)b - 1)), "a coefficient differs from the formula");
-        expect(fabsl(coefficients[p] - value(u) / 2) <= 0.5L + ldexpl(65536, -(int)b) + 1e-9L, "a coefficient is too far from half the value");
+        check_block(samples);
     }
 }
 
-static void round_all(const int32_t *elements) {
-    int32_t coefficients[64];
-    for (int w = 0; w < 3; w++) {
-        expect(block_round(elements, 512, widths[w], coefficients, 64) == 0, "an accepted set is refused");
-        check_coefficients(elements, widths[w], coefficients);
+static void random_blocks(void) {
+    int32_t samples[BLOCK];
+    for (int n = 0; n < 8000; n++) {
+        begin("random block %d of pattern %d", n, n % PATTERNS);
+        make_samples(samples, 1, 1, (enum pattern)(n % PATTERNS));
+        check_block(samples);
     }
 }
 
-/* blocks of one sample, of extremes, and of any samples in range */
-static void blocks(void) {
-    int32_t s[64], t[64], elements[512], again[512];
-    for (int n = 0; n < 400; n++) {
-        for (int q = 0; q < 64; q++)
-            s[q] = n < 64 ? (q == n ? 2047 : 0) : n < 200 ? (any(0, 1) ? 2047 : -2048) : any(-2048, 2047);
-        expect(block_forward(s, 64, elements, 512) == 0, "a block in range is refused");
-        check_elements(s, elements);
-        round_all(elements);
-        expect(check_back(elements) == 0, "a block's set does not go back");
-        expect(block_back(elements, 512, t, 64) == 0 && memcmp(s, t, sizeof s) == 0, "a block's set goes back to another block");
-        expect(block_forward(t, 64, again, 512) == 0 && memcmp(elements, again, sizeof elements) == 0, "what goes back has other elements");
-    }
-}
+/* Sets on the way back. */
 
-/* one unit away from a block's set, at each of the 512 numbers, up or down */
+/* one unit away from a block's set, at each of the 512 numbers, up and down */
 static void units_away(void) {
-    int32_t s[64], elements[512];
+    int32_t samples[BLOCK], set[SET];
     for (int n = 0; n < 8; n++) {
-        for (int q = 0; q < 64; q++) s[q] = n < 4 ? any(-2048, 2047) : n == 4 ? 0 : n == 5 ? -2048 : n == 6 ? 2047 : (q + q / 8) % 2 ? 2047 : -2048;
-        expect(block_forward(s, 64, elements, 512) == 0, "a block in range is refused");
-        for (int k = 0; k < 512; k++)
-            for (int unit = -1; unit < 2; unit += 2) {
-                elements[k] += unit;
-                expect(check_back(elements) != 0, "a set one unit away from a block's goes back");
-                elements[k] -= unit;
-            }
+        if (n < 4) make_samples(samples, 1, 1, (enum pattern)n);
+        else make_extreme(samples, n < 6 ? 0 : 63, n % 2);
+        make_set(samples, set);
+        for (int k = 0; k < 2 * SET; k++) {
+            int32_t unit = k % 2 ? 1 : -1;
+            begin("set %d, %d away at %d", n, (int)unit, k / 2);
+            set[k / 2] += unit;
+            expect(back_number(set) != ACCEPTED, "a set one unit away from a block's goes back");
+            set[k / 2] -= unit;
+        }
     }
 }
 
 /* the sum of two blocks' sets is the set of the sum of the blocks, which may be out of range by a little */
 static void sums_of_sets(void) {
-    int32_t s[64], t[64], elements[512], others[512];
-    int returned = 0, refused = 0;
-    for (int n = 0; n < 2000; n++) {
-        int32_t most = n % 2 ? 1023 : 1025;
-        for (int q = 0; q < 64; q++) { s[q] = any(-1024, most); t[q] = n % 4 < 2 ? s[q] : any(-1024, 1023); }
-        expect(block_forward(s, 64, elements, 512) == 0 && block_forward(t, 64, others, 512) == 0, "a block in range is refused");
-        for (int k = 0; k < 512; k++) elements[k] += others[k];
-        if (check_back(elements) == 0) returned++; else refused++;
+    int32_t samples[BLOCK], others[BLOCK], set[SET], added[SET];
+    int by_answer[ANSWERS] = {0};
+    for (int n = 0; n < 4000; n++) {
+        begin("sum %d of two sets", n);
+        for (int q = 0; q < BLOCK; q++) {
+            samples[q] = any(-1024, n % 2 ? 1023 : 1025);
+            others[q] = n % 4 < 2 ? samples[q] : any(-1024, 1023);
+        }
+        make_set(samples, set);
+        make_set(others, added);
+        for (int k = 0; k < SET; k++) set[k] += added[k];
+        by_answer[back_number(set)]++;
     }
-    expect(returned > 0 && refused > 0, "the sums of sets are all accepted or all refused");
+    expect(by_answer[ACCEPTED] > 0 && by_answer[NO_BLOCK] > 0, "the sums are all accepted or all refused");
 }
 
-/* one sample out of range by one, at each place and at both ends: a block's set and a unit's */
+/* the set of a block with one sample out of range by one, at each place and at both ends */
 static void just_out_of_range(void) {
-    int32_t s[64], unit[64] = {0}, elements[512], others[512];
-    for (int n = 0; n < 128; n++) {
-        for (int q = 0; q < 64; q++) s[q] = any(-2048, 2047);
-        s[n / 2] = n % 2 ? 2047 : -2048;
-        unit[n / 2] = n % 2 ? 1 : -1;
-        expect(block_forward(s, 64, elements, 512) == 0 && block_forward(unit, 64, others, 512) == 0, "a block in range is refused");
-        for (int k = 0; k < 512; k++) elements[k] += others[k];
-        expect(check_back(elements) == 5, "a block out of range by one goes back");
-        unit[n / 2] = 0;
+    int32_t samples[BLOCK], unit[BLOCK] = {0}, set[SET], added[SET];
+    for (int n = 0; n < 4 * BLOCK; n++) {
+        int q = n / 4;
+        begin("the sample at %d is out of range by one", q);
+        make_samples(samples, 1, 1, n % 4 < 2 ? ANY : SMOOTH);
+        samples[q] = n % 2 ? HIGHEST : LOWEST;
+        unit[q] = n % 2 ? 1 : -1;
+        make_set(samples, set);
+        make_set(unit, added);
+        for (int k = 0; k < SET; k++) set[k] += added[k];
+        expect(back_number(set) == NO_BLOCK, "a block out of range goes back");
+        unit[q] = 0;
     }
 }
 
-/* one element alone, of one component */
+/* one component alone; 128 at (0,0), (0,4), (4,0) and (4,4) is a block's */
 static void single_components(void) {
-    static const int32_t numbers[] = {1, -1, 2, 128, -128, 256, 262016, 262144, -262144, -262145, 262145, INT32_MAX, INT32_MIN};
-    int32_t elements[512] = {0};
-    for (size_t n = 0; n < sizeof numbers / sizeof numbers[0]; n++)
-        for (int k = 0; k < 512; k++) {
-            elements[k] = numbers[n];
-            check_back(elements);
-            elements[k] = 0;
-        }
-}
-
-/* accepted sets that are no block's: each element's magnitudes sum to the limit, shared out at random */
-static void other_sets(void) {
-    int32_t elements[512];
-    for (int n = 0; n < 400; n++) {
-        for (int p = 0; p < 64; p++) {
-            int32_t rest = 262144, shift = any(0, 7);
-            for (int k = 0; k < 8; k++) {
-                int32_t part = k == 7 || n % 2 ? rest : any(0, rest);
-                elements[8 * p + (k + shift) % 8] = any(0, 1) ? part : -part;
-                rest -= part;
-            }
-        }
-        round_all(elements);
-        expect(check_back(elements) == 5, "a set that is no block's goes back");
+    static const int32_t numbers[] = {1, -1, 2, 64, 128, -128, 192, 256, 262016, 262144, -262144, 262145, -262145, 1 << 19, INT32_MAX, -INT32_MAX,
+        INT32_MIN};
+    int32_t set[SET] = {0};
+    for (size_t n = 0; n < COUNT(numbers) * SET; n++) {
+        size_t k = n / COUNT(numbers);
+        set[k] = numbers[n % COUNT(numbers)];
+        begin("%d alone at number %zu", (int)set[k], k);
+        uint32_t number = back_number(set);
+        if (number == BAD_MAGNITUDES) expect(round_number(set, widths[k % WIDTHS]) == number, "round takes what is above the limit");
+        else round_at_all(set);
+        set[k] = 0;
     }
 }
 
-/* one number wrong: a length, a sample, a width or an element */
-static void refusals(void) {
-    int32_t s[64] = {0}, elements[513], before[513], coefficients[65], was[65], samples[65];
-    for (int q = 0; q < 513; q++) before[q] = elements[q] = any(-9, 9);
-    for (int q = 0; q < 65; q++) was[q] = coefficients[q] = samples[q] = any(-9, 9);
-    for (int n = 0; n < 64; n++) {
-        expect(block_forward(s, (size_t)n, elements, 512) == 1 && block_forward(s, 64, elements, 448 + (size_t)n) == 1, "forward: lengths");
-        expect(block_round(elements, 448 + (size_t)n, 11, coefficients, 64) == 1, "rounding: elements' length");
-        expect(block_round(elements, 512, 11, coefficients, (size_t)n) == 1, "rounding: coefficients' length");
-        expect(block_back(elements, 448 + (size_t)n, samples, 64) == 1 && block_back(elements, 512, samples, (size_t)n) == 1, "back: lengths");
-        s[n] = any(0, 1) ? any(2048, INT32_MAX) : any(INT32_MIN, -2049);
-        expect(block_forward(s, 64, elements, 512) == 2, "forward: a sample out of range");
-        s[n] = 0;
-        uint32_t b = n == 11 || n == 20 || n == 26 ? UINT32_MAX : (uint32_t)n;
-        expect(block_round(elements, 512, b, coefficients, 64) == 3, "rounding: no width");
+/* one element's numbers, with magnitudes that sum to the total, shared out at random */
+static void share_out(int32_t *u, int32_t total) {
+    int32_t shift = any(0, 7), whole = any(0, 1);
+    for (int k = 0; k < 8; k++) {
+        int32_t part = k == 7 || whole ? total : any(0, total);
+        u[(k + shift) % 8] = any(0, 1) ? part : -part;
+        total -= part;
     }
-    expect(memcmp(elements, before, sizeof before) == 0, "a refused call of forward wrote into its buffer");
-    expect(block_forward(s, 64, elements, 513) == 1 && block_round(elements, 513, 26, coefficients, 64) == 1, "a buffer too long");
-    expect(block_round(elements, 512, 26, coefficients, 65) == 1, "a buffer too long");
-    expect(block_back(elements, 513, samples, 64) == 1 && block_back(elements, 512, samples, 65) == 1, "a buffer too long");
-    for (int n = 0; n < 512; n++) {
-        memset(elements + n / 8 * 8, 0, 8 * sizeof elements[0]);
-        elements[n] = any(0, 1) ? INT32_MIN : 262145;
-        expect(block_round(elements, 512, 26, coefficients, 64) == 4, "rounding: an element above the limit");
-        expect(block_back(elements, 512, samples, 64) == 4 && block_back(elements, 511, samples, 64) == 1, "back: an element above the limit");
-        memcpy(elements, before, sizeof before);
+}
+
+/* sets that are no block's, with every element at the limit; and one element above it by one */
+static void sets_at_the_limit(void) {
+    int32_t set[SET];
+    for (int n = 0; n < 640; n++) {
+        begin("set %d at the limit", n);
+        for (int p = 0; p < BLOCK; p++) share_out(set + 8 * p, MOST_MAGNITUDES);
+        round_at_all(set);
+        expect(back_number(set) == NO_BLOCK, "a set that is no block's goes back");
+        begin("set %d above the limit by one at %d", n, n % BLOCK);
+        share_out(set + 8 * (n % BLOCK), MOST_MAGNITUDES + 1);
+        expect(round_number(set, widths[n % WIDTHS]) == BAD_MAGNITUDES && back_number(set) == BAD_MAGNITUDES, "a set above the limit is accepted");
     }
-    expect(memcmp(coefficients, was, sizeof was) == 0, "a refused call of rounding wrote into its buffer");
-    expect(memcmp(samples, was, sizeof was) == 0, "a refused call of back wrote into its buffer");
+}
+
+/* Halves. */
+
+/* the number whose product with an odd m is 1 more than a multiple of 2^64 */
+static uint64_t inverse(uint64_t m) {
+    uint64_t x = 1;
+    for (int n = 0; n < 6; n++) x *= 2 - m * x;
+    return x;
+}
+
+/* an accepted element of any components whose N is a half, 2^b more than a multiple of 2^(b+1), or below one by so many */
+static void make_half(int32_t *u, uint32_t b, int64_t by) {
+    int64_t one = (int64_t)2 << b, fitting;
+    int k = 1;
+    while (table_number(k, b) % 2 == 0) k++;
+    do {
+        for (int n = 0; n < 8; n++) u[n] = any(-999, 999);
+        u[k] = 0;
+        fitting = (int64_t)(inverse((uint64_t)table_number(k, b)) * (uint64_t)(one / 2 - by - table_sum(u, b)) % (uint64_t)one);
+        if (fitting >= one / 2) fitting -= one;
+    } while (fitting < -250000 || fitting > 250000);
+    u[k] = (int32_t)fitting;
+}
+
+/* A half goes up, at every place; one below it goes down. Blocks at random hardly ever come near. */
+static void halves(void) {
+    int32_t set[SET];
+    for (int n = 0; n < WIDTHS * 100; n++) {
+        uint32_t b = widths[n % WIDTHS];
+        int64_t half = (int64_t)1 << b;
+        begin("halves, set %d, b = %u", n, (unsigned)b);
+        for (int p = 0; p < BLOCK; p++) make_half(set + 8 * p, b, (p + n) / WIDTHS % 2);
+        round_number(set, b);
+        for (int p = 0; p < BLOCK; p++) {
+            int64_t up = 2 * half * came[p] - table_sum(set + 8 * p, b), by = (p + n) / WIDTHS % 2;
+            expect(up == (by == 0 ? half : 1 - half), "what is %lld below a half is rounded by %lld at %d", (long long)by, (long long)up, p);
+        }
+    }
+}
+
+/* Refusals. */
+
+/* Lengths: none, one, about the right one, right again in 8 or 16 bits, and far longer. */
+static void make_lengths(size_t full, size_t *lengths) {
+    size_t all[LENGTHS] = {0, 1, full - 1, full, full + 1, full + 256, 4096, full + 65536, LONGEST};
+    memcpy(lengths, all, sizeof all);
+}
+
+/* every pair of lengths, with contents that are refused for other causes: length comes first */
+static void forward_lengths(void) {
+    static const int faults[][2] = {{-1, -1}, {0, 0}, {0, 63}, {62, 62}, {17, 40}};
+    size_t of_samples[LENGTHS], of_elements[LENGTHS];
+    make_lengths(BLOCK, of_samples);
+    make_lengths(SET, of_elements);
+    for (size_t n = 0; n < LENGTHS * LENGTHS * COUNT(faults); n++) {
+        const int *at = faults[n % COUNT(faults)];
+        int32_t samples[BLOCK] = {0};
+        if (at[0] >= 0) samples[at[0]] = HIGHEST + 1;
+        if (at[0] >= 0) samples[at[1]] = LOWEST - 1;
+        size_t i = of_samples[n / COUNT(faults) % LENGTHS], j = of_elements[n / COUNT(faults) / LENGTHS];
+        begin("lengths %zu and %zu, samples out of range at %d and %d", i, j, at[0], at[1]);
+        check_forward(samples, i, j);
+    }
+}
+
+/* sets with causes of their own: none, no block's, above the limit at one place or at two */
+enum { SETS = 5 };
+static void make_faulty_set(int32_t *set, int n) {
+    int32_t samples[BLOCK];
+    make_samples(samples, 1, 1, SMOOTH);
+    make_set(samples, set);
+    if (n == 1) set[64] += 1;
+    if (n == 2) set[8 * 62] = MOST_MAGNITUDES + 1;
+    if (n > 2) set[1] = set[300] = INT32_MIN;
+    if (n > 3) set[256] += 1;
+}
+
+static void back_and_round_lengths(void) {
+    static const uint32_t bs[] = {11, 20, 26, 0, 12, UINT32_MAX};
+    size_t of_block[LENGTHS], of_set[LENGTHS];
+    int32_t set[SET];
+    make_lengths(BLOCK, of_block);
+    make_lengths(SET, of_set);
+    for (size_t n = 0; n < LENGTHS * LENGTHS * SETS; n++) {
+        size_t i = of_set[n / SETS % LENGTHS], j = of_block[n / SETS / LENGTHS];
+        make_faulty_set(set, n % SETS);
+        begin("lengths %zu and %zu, faulty set %d", i, j, (int)n % SETS);
+        check_back(set, i, j);
+        for (size_t m = 0; m < COUNT(bs); m++) {
+            begin("lengths %zu and %zu, faulty set %d, b = %u", i, j, (int)n % SETS, (unsigned)bs[m]);
+            check_round(set, i, bs[m], j);
+        }
+    }
+}
+
+/* lengths that are right again in 32 bits: the whole length counts, and no buffer is written */
+static void lengths_above_32_bits(void) {
+    static const int32_t zeros[SET];
+    int32_t *huge = huge_buffer(), block[BLOCK] = {0}, set[SET] = {0};
+    size_t of_block = ABOVE_32_BITS + BLOCK, of_set = ABOVE_32_BITS + SET;
+    Answer wanted = {BAD_LENGTH, 0};
+    struct weld_dct_answer answers[] = {weld_dct_forward(huge, of_block, set, SET), weld_dct_forward(block, BLOCK, huge, of_set),
+        weld_dct_back(huge, of_set, block, BLOCK), weld_dct_back(set, SET, huge, of_block), weld_dct_round(huge, of_set, 11, block, BLOCK),
+        weld_dct_round(set, SET, 11, huge, of_block)};
+    begin("a length above 32 bits");
+    for (size_t n = 0; n < COUNT(answers); n++) expect_answer(jobs[n / 2], wanted, answers[n].number, answers[n].place);
+    expect(memcmp(block, zeros, sizeof block) == 0 && memcmp(set, zeros, sizeof set) == 0 && memcmp(huge, zeros, sizeof zeros) == 0,
+           "a refused call writes into a buffer");
+}
+
+/* a sample out of range at each place, alone and with others behind it: the lowest index is named */
+static void samples_out_of_range(void) {
+    static const int32_t out[] = {HIGHEST + 1, LOWEST - 1, 4096, -4096, 65536 + 5, 1 << 24, INT32_MAX, INT32_MIN};
+    int32_t samples[BLOCK];
+    for (int n = 0; n < (int)COUNT(out) * 4 * BLOCK; n++) {
+        int q = n % BLOCK, others = n / BLOCK % 4;
+        make_samples(samples, 1, 1, (enum pattern)(n / BLOCK % PATTERNS));
+        samples[q] = out[n / BLOCK / 4];
+        for (; others > 0; others--) samples[any(q, BLOCK - 1)] = out[(n + others) % (int)COUNT(out)];
+        begin("%d at %d", (int)samples[q], q);
+        Answer answer = check_forward(samples, BLOCK, SET);
+        expect(answer.number == BAD_SAMPLE && answer.place == (size_t)q, "the second program has another answer");
+    }
+}
+
+/* an element above the limit at each place, alone and with others behind it; among them are sums that are small again in 32 bits */
+static void magnitudes_above_the_limit(void) {
+    static const int32_t above[][8] = {{262145}, {-262145}, {32768, 32768, -32768, 32768, 32768, -32768, 32768, 32769},
+        {0, 131072, 0, 0, 0, 0, 1, -131072}, {0, 0, 0, 0, 0, 0, 0, INT32_MIN}, {INT32_MIN, 1, 1, 1, 1, 1, 1, 1}, {INT32_MIN, INT32_MIN},
+        {INT32_MAX, INT32_MAX, 2}, {1 << 30, 1 << 30, 1 << 30, 1 << 30}};
+    int32_t set[SET];
+    for (size_t n = 0; n < COUNT(above) * 3 * BLOCK; n++) {
+        size_t p = n % BLOCK, others = n / BLOCK % 3;
+        make_faulty_set(set, (int)others % 2);
+        for (size_t k = 0; k < 8; k++) set[8 * p + k] = above[n / BLOCK / 3][k];
+        for (; others > 0; others--) set[any((int32_t)(8 * p), SET - 1) / 8 * 8] = INT32_MIN;
+        begin("element %zu is above the limit, as %zu", p, n / BLOCK / 3);
+        Answer answer = check_back(set, SET, BLOCK), rounded = check_round(set, SET, widths[n % WIDTHS], BLOCK);
+        expect(answer.number == BAD_MAGNITUDES && answer.place == p && rounded.place == p, "the second program has another answer");
+    }
+}
+
+/* every b that is no width, of sets that are accepted and of others: the width comes first */
+static void no_widths(void) {
+    int32_t set[SET];
+    for (int n = 0; n < NO_WIDTHS * SETS; n++) {
+        make_faulty_set(set, n % SETS);
+        begin("b = %u, faulty set %d", (unsigned)no_width(n / SETS), n % SETS);
+        expect(round_number(set, no_width(n / SETS)) == BAD_WIDTH, "the second program has another answer");
+    }
+}
+
+/* prints how many calls there were; every answer that a job has must have come */
+static void report(void) {
+    static const uint32_t of_job[JOBS][4] = {{ACCEPTED, BAD_LENGTH, BAD_SAMPLE}, {ACCEPTED, BAD_LENGTH, BAD_MAGNITUDES, NO_BLOCK},
+        {ACCEPTED, BAD_LENGTH, BAD_WIDTH, BAD_MAGNITUDES}};
+    int calls[JOBS] = {0};
+    begin("end");
+    for (int job = 0; job < JOBS; job++) {
+        for (int n = 0; n < ANSWERS; n++) calls[job] += answered[job][n];
+        for (int n = 0; n < 4; n++) expect(answered[job][of_job[job][n]] > 0, "%s never answered %u", jobs[job], (unsigned)of_job[job][n]);
+    }
+    printf("blocks: %d calls of forward (%d accepted), %d of back (%d) and %d of round (%d) as 01 and T.81's formula have them; seed %llu\n",
+           calls[FORWARD], answered[FORWARD][ACCEPTED], calls[BACK], answered[BACK][ACCEPTED], calls[ROUND], answered[ROUND][ACCEPTED],
+           (unsigned long long)seed);
 }
 
 int main(void) {
-    pi = acosl(-1);
-    for (int k = 0; k < 8; k++)
-        for (int n = 0; n < 8; n++) cosine[k][n] = (k == 0 ? 1 / sqrtl(2) : 1) * cosl((2 * n + 1) * k * pi / 16);
-    blocks();
+    start("blocks");
+    films();
+    extremes();
+    impulses();
+    ramps();
+    random_blocks();
     units_away();
     sums_of_sets();
     just_out_of_range();
     single_components();
-    other_sets();
-    refusals();
-    printf("blocks: 400 blocks and 400 other sets at three widths, %d sets on the way back, and refusals, as T.81's formula and 01 have them\n", sets_back);
+    sets_at_the_limit();
+    halves();
+    forward_lengths();
+    back_and_round_lengths();
+    lengths_above_32_bits();
+    samples_out_of_range();
+    magnitudes_above_the_limit();
+    no_widths();
+    report();
     return 0;
 }

@@ -36,6 +36,15 @@ pub fn only(s: i32, k: usize) -> Element
     Element { components }
 }
 
+// u_k
+pub fn component(a: Element, k: usize) -> i32
+    requires { ⌜ k < 8 ⌝ }
+    ensures { λ r. ⌜ r ≡ ring.component (a .components) k ⌝ }
+{
+    let u = a.components;
+    u[k]
+}
+
 // a + b
 pub fn add(a: Element, b: Element) -> Element
     requires { ⌜ Within headroom (a .components) ⌝ }

@@ -1,17 +1,19 @@
 -- What decides whether a block has the elements: forward accepts it, and the 512 numbers agree one by one.
 -- Assumes nothing.
 use mathlib.Core.Path.{_≡_, sym, ap, _∙_}
-use mathlib.Core.Bool.{true, false}
+use mathlib.Core.Bool.{Bool, true, false, _&&_}
 use mathlib.Core.List.{List}
 use Prim.Native.Nat.{ℕ, _+_, _≤_, _<_}
 use native.Mathlib.Nat.{not-suc-le-zero}
 use native.Mathlib.Decide.{ℕ-discrete}
 use native.Mathlib.Omega.{arith}
-use lib.Dec.{T}
+use lib.Dec.{T, eqb, eqb→eq}
 use lib.IntN.{ℤ, pos}
 use lib.ListN.{length, getD}
 use lib.Seq.{ext-getD}
-use mir.Facts.{and-yes}
+use mir.Facts.{and-yes, yes-and}
+use mir.Syntax.{w32}
+use mir.Val.{ofZ, toZ}
 use borrow.Author.Tests.{eq-eqb}
 use Rattle.integers.specs.Test.{eqList}
 use Rattle.integers.proofs.Tests.{holds, fails, every-at, every-passes, eqList→≡, eqList-refl}
@@ -27,24 +29,47 @@ use Rattle.inverse.specs.Back.{all-in-range, is-block-of}
 pub record Agree (a b : List ℤ) (i : ℕ) : Type 0 where
   pub agree : (k : ℕ) → k < i → getD a k (pos 0) ≡ getD b k (pos 0)
 
-pub agree-none : {a b : List ℤ} → Agree a b 0
-agree-none = record { agree = λ k h. absurd (not-suc-le-zero h) }
-
-pub agree-more : {a b : List ℤ} {i : ℕ} → Agree a b i → getD a i (pos 0) ≡ getD b i (pos 0) → Agree a b (i + 1)
+agree-more : {a b : List ℤ} {i : ℕ} → Agree a b i → getD a i (pos 0) ≡ getD b i (pos 0) → Agree a b (i + 1)
 agree-more {a} {b} {i} A e = record { agree = λ k h. go k h (ℕ-discrete k i) }
   where
     go : (k : ℕ) → k < i + 1 → Dec (k ≡ i) → getD a k (pos 0) ≡ getD b k (pos 0)
     go k h (yes p) = rw p e
     go k h (no q) = A .agree k (omega arith)
 
-pub agree-all : (a b : List ℤ) {n i : ℕ} → length a ≡ n → length b ≡ n → n ≤ i → Agree a b i → true ≡ eqList a b
+agree-all : (a b : List ℤ) {n i : ℕ} → length a ≡ n → length b ≡ n → n ≤ i → Agree a b i → true ≡ eqList a b
 agree-all a b {n} {i} p q l A = go (ext-getD (pos 0) a b (p ∙ sym q) (λ k h. let h′ : k < n = rw p at h in A .agree k (omega arith)))
   where
     go : a ≡ b → true ≡ eqList a b
     go e = rw e (sym (holds (eqList b b) (eqList-refl b)))
 
-pub differ : (a b : List ℤ) (i : ℕ) → (getD a i (pos 0) ≡ getD b i (pos 0) → ⊥) → false ≡ eqList a b
-differ a b i n = sym (fails (eqList a b) (λ t. n (ap (λ l. getD l i (pos 0)) (eqList→≡ a b t))))
+-- r says whether they are: if it says so they are, and it says so of two buffers that hold the same
+pub record Agreed (a b : List ℤ) (i : ℕ) (r : Bool) : Type 0 where
+  pub agrees : T r → Agree a b i
+  pub says : a ≡ b → T r
+
+pub agreed-none : {a b : List ℤ} → Agreed a b 0 true
+agreed-none = record { agrees = λ t. record { agree = λ k h. absurd (not-suc-le-zero h) }; says = λ e. tt }
+
+-- one number more, compared by its bits
+
+abbrev bits : List ℤ → ℕ → ℕ
+bits l i = ofZ w32 (getD l i (pos 0))
+
+pub agreed-more : {a b : List ℤ} {i : ℕ} {r : Bool} → Agreed a b i r → toZ w32 (bits a i) ≡ getD a i (pos 0) → toZ w32 (bits b i) ≡ getD b i (pos 0)
+    → Agreed a b (i + 1) (r && eqb (bits a i) (bits b i))
+agreed-more {a} {b} {i} {r} A read-a read-b = record {
+  agrees = λ t.
+      let (p, q) = and-yes r (eqb (bits a i) (bits b i)) t in
+      agree-more (A .agrees p) (sym read-a ∙ ap (toZ w32) (eqb→eq (bits a i) (bits b i) q) ∙ read-b);
+  says = λ e. yes-and r (eqb (bits a i) (bits b i)) (A .says e) (rw (eq-eqb (bits a i) (bits b i) (ap (λ l. bits l i) e)) tt);
+}
+
+pub agreed-all : (a b : List ℤ) {n i : ℕ} {r : Bool} → length a ≡ n → length b ≡ n → n ≤ i → Agreed a b i r → r ≡ eqList a b
+agreed-all a b {n} {i} {r} p q l A = go r A
+  where
+    go : (r : Bool) → Agreed a b i r → r ≡ eqList a b
+    go true A = agree-all a b p q l (A .agrees tt)
+    go false A = sym (fails (eqList a b) (λ t. A .says (eqList→≡ a b t)))
 
 -- the range, as a test and as a fact
 

@@ -1,125 +1,29 @@
--- One row on the way back: its halves and the room for their sums, and the row that they restore.
+-- One row or column on the way back: a row stays as small as it was, what the code gathers for it, and what it restores.
 -- Assumes nothing.
-use mathlib.Core.Path.{_≡_, refl, sym, ap, ap₂, _∙_}
-use mathlib.Core.List.{List, [], _∷_}
-use Prim.Native.Nat.{ℕ, _+_, _*_, _-_, _≤_, _<_}
-use native.Mathlib.Decide.{decLt}
+use mathlib.Core.Path.{_≡_, refl, sym, ap, _∙_}
+use mathlib.Core.List.{List, []}
+use Prim.Native.Nat.{ℕ, _+_, _*_, _<_}
 use native.Mathlib.Omega.{arith}
-use lib.Dec.{lit<, lit≤}
-use lib.IntN.{ℤ, pos, negsuc}
-use lib.ListN.{getD}
+use lib.Dec.{lit<}
+use lib.IntN.{ℤ, pos, negsuc, _+ℤ_}
 use lib.Signed.{shrZ}
-use borrow.Author.Tests.{lt-ltb, le-ltb}
-use Rattle.integers.specs.Sum.{sum}
 use Rattle.integers.proofs.Division.{shrZ-exact, shrZ-small}
 use Rattle.integers.proofs.Sums.{sum-cong}
 use Rattle.integers.proofs.Tables.{is-table, length-table}
-use Rattle.ring.specs.Element.{component, add, scale, subtract, cosine, mul}
-use Rattle.ring.proofs.Product.{mul-comm}
-use Rattle.ring.proofs.Components.{Eight, eight-add, eight-scale, eight-mul, eight-sum, component-scale}
-use Rattle.dct.specs.Inverse.{step-back, even-back, odd-back}
-use Rattle.dct.specs.Transform.{angle, factor, step}
-use Rattle.dct.proofs.Factors.{eight-factor}
-use Rattle.dct.proofs.HalvesBack.{back-sum, back-difference}
+use Rattle.ring.specs.Element.{component, add, scale, mul}
+use Rattle.ring.proofs.Components.{Eight, component-scale}
+use Rattle.dct.specs.Inverse.{step-back}
+use Rattle.dct.specs.Transform.{factor, step}
 use Rattle.dct.proofs.Inverse.{row-inverse}
 use Rattle.elements.specs.declared.Element.{Element}
-use Rattle.elements.specs.Bound.{Within, bits}
 use Rattle.elements.specs.Buffer.{Row, entry}
-use Rattle.elements.proofs.Bounds.{within-le, within-cosine, within-table}
-use Rattle.elements.proofs.Componentwise.{within-sum}
-use Rattle.transform.specs.Step.{Room}
-use Rattle.transform.proofs.Halves.{eights, room-add, room-subtract, room-times, row-4}
-use Rattle.inverse.specs.Passes.{sixteenth, butterfly, row-back}
-
--- an element of eight components, none of which is above B in magnitude
-pub record Small (B : ℕ) (a : List ℤ) : Type 0 where
-  pub eight : Eight a
-  pub within : Within B a
-
-pub small-room : (B : ℕ) {m n : ℕ} {x : List Element} → B ≤ bits n → ((i : ℕ) → i < m → Small B (entry x i)) → Room m n x
-small-room B l s = record { eights = λ i h. s i h .eight .eight; within = λ i h. within-le l (s i h .within) }
-
-room-small : {m n : ℕ} {x : List Element} → Room m n x → (i : ℕ) → i < m → Small (bits n) (entry x i)
-room-small room i h = record { eight = record { eight = room .eights i h }; within = room .within i h }
-
--- a product with a factor doubles the bound, and m of them are summed
-small-products : {B m : ℕ} (r : ℕ → List ℤ) (k n : ℕ → ℕ) → 0 < m → ((i : ℕ) → i < m → Small B (r i))
-    → Small (m * (B + B)) (sum [] add m (λ i. mul (r i) (factor (k i) (n i))))
-unfolding factor
-small-products {B} {m} r k n some s = record {
-  eight = eight-sum m _ some (λ i h. eight-mul (s i h .eight) (eight-factor (k i) (n i)));
-  within = within-sum m (B + B) _ (λ i h. rw (mul-comm (r i) (factor (k i) (n i))) (within-cosine (pos (angle (k i) (n i))) (s i h .eight) (s i h .within)));
-}
-
--- c_4 times the sum and the difference of the elements 0 and 4, which stand as 0 and 2 of the even ones
-module _ {e : List Element} (room : Room 4 28 e) where
-  pub room-p0 : Within (bits 30) (mul (cosine (pos 4)) (add (entry e 0) (entry e 2)))
-  room-p0 =
-      room-times 29 4 (eight-add (eights room 0 (lit< tt)) (eights room 2 (lit< tt))) (room-add 28 (room .within 0 (lit< tt)) (room .within 2 (lit< tt)))
-
-  pub room-p1 : Within (bits 30) (mul (cosine (pos 4)) (subtract (entry e 0) (entry e 2)))
-  room-p1 =
-      room-times 29 4 (eight-add (eights room 0 (lit< tt)) (eight-scale (negsuc 0) (eights room 2 (lit< tt))))
-      (room-subtract 28 (room .within 0 (lit< tt)) (room .within 2 (lit< tt)))
-
--- the halves of the row x, as the code takes them
-module _ {x : List Element} (room : Room 8 27 x) where
-  abbrev at : ℕ → Element
-  at i = getD x i (record { components = [] })
-
-  abbrev evens : List Element
-  evens = at 0 ∷ at 2 ∷ at 4 ∷ at 6 ∷ []
-
-  abbrev odds : List Element
-  odds = at 1 ∷ at 3 ∷ at 5 ∷ at 7 ∷ []
-
-  evens-are : Row 4 (λ i. entry x (2 * i)) evens
-  evens-are = row-4 refl refl refl refl
-
-  odds-are : Row 4 (λ i. entry x (2 * i + 1)) odds
-  odds-are = row-4 refl refl refl refl
-
-  small-evens : (i : ℕ) → i < 4 → Small (bits 27) (entry evens i)
-  small-evens i h = rw (evens-are .at i h) (room-small room (2 * i) (omega arith))
-
-  small-odds : (i : ℕ) → i < 4 → Small (bits 27) (entry odds i)
-  small-odds i h = rw (odds-are .at i h) (room-small room (2 * i + 1) (omega arith))
-
-  pub room-evens : Room 4 28 evens
-  room-evens = small-room (bits 27) (omega arith) small-evens
-
-  pub room-odds : Room 4 28 odds
-  room-odds = small-room (bits 27) (omega arith) small-odds
-
-  -- what they give
-  module _ {e o : List Element} (E : Row 4 (even-back (entry evens)) e) (O : Row 4 (odd-back (entry odds)) o) where
-    pub room-even : Room 4 30 e
-    unfolding even-back
-    room-even = small-room (4 * (bits 27 + bits 27)) (lit≤ tt) (λ n h. rw (E .at n h) (small-products (entry evens) (λ i. 2 * i) (λ i. n) (lit< tt) small-evens))
-
-    pub room-odd : Room 4 30 o
-    unfolding odd-back
-    room-odd = small-room (4 * (bits 27 + bits 27)) (lit≤ tt) (λ n h. rw (O .at n h) (small-products (entry odds) (λ i. 2 * i + 1) (λ i. n) (lit< tt) small-odds))
-
-    even-is : (n : ℕ) → n < 4 → entry e n ≡ even-back (λ i. entry x (2 * i)) n
-    unfolding even-back
-    even-is n h = E .at n h ∙ sum-cong [] add 4 _ _ (λ i l. ap (λ a. mul a (factor (2 * i) n)) (evens-are .at i l))
-
-    odd-is : (n : ℕ) → n < 4 → entry o n ≡ odd-back (λ i. entry x (2 * i + 1)) n
-    unfolding odd-back
-    odd-is n h = O .at n h ∙ sum-cong [] add 4 _ _ (λ i l. ap (λ a. mul a (factor (2 * i + 1) n)) (odds-are .at i l))
-
-    pub joined : (n : ℕ) → n < 8 → butterfly (entry e) (entry o) n ≡ step-back (entry x) n
-    unfolding butterfly
-    joined n h = go (decLt n 4)
-      where
-        go : Dec (n < 4) → butterfly (entry e) (entry o) n ≡ step-back (entry x) n
-        go (yes l) = rw (lt-ltb n 4 l) (ap₂ add (even-is n l) (odd-is n l) ∙ back-sum (entry x) (eights room) n l)
-        go (no l) =
-            let k : 7 - n < 4 = omega arith in
-            let twice : 7 - (7 - n) ≡ n = omega arith in
-            rw (le-ltb n 4 (omega arith))
-            (ap₂ subtract (even-is (7 - n) k) (odd-is (7 - n) k) ∙ back-difference (entry x) (eights room) (7 - n) k ∙ ap (step-back (entry x)) twice)
+use Rattle.elements.proofs.Bounds.{within-table}
+use Rattle.step.proofs.Halves.{row-8}
+use Rattle.step_back.proofs.Halves.{Small, small-products}
+use Rattle.number_step_back.specs.Half.{Half, Halves}
+use Rattle.transform.specs.Rows.{row}
+use Rattle.transform.proofs.Blocks.{across}
+use Rattle.inverse.specs.Passes.{sixteenth, row-back}
 
 summed-small : {B : ℕ} (r : ℕ → List ℤ) → ((k : ℕ) → k < 8 → Small B (r k)) → (n : ℕ) → Small (8 * (B + B)) (step-back r n)
 unfolding step-back
@@ -139,6 +43,24 @@ small-row-back {B} r s n = record {
     sixteen : 8 * (B + B) ≡ 16 * B
     sixteen = omega arith
 
+-- rows that agree
+step-back-cong : (r s : ℕ → List ℤ) (n : ℕ) → ((k : ℕ) → k < 8 → r k ≡ s k) → step-back r n ≡ step-back s n
+unfolding step-back
+step-back-cong r s n e = sum-cong [] add 8 _ _ (λ k h. ap (λ a. mul a (factor k n)) (e k h))
+
+pub row-gone-back : {f : ℕ → List ℤ} {l r : List Element} → Row 8 f l → Row 8 (row-back (entry l)) r → Row 8 (row-back f) r
+unfolding row-back
+row-gone-back {f} {l} L R = record { at = λ n h. R .at n h ∙ ap sixteenth (step-back-cong (entry l) f n (λ k m. L .at k m)) }
+
+pub column-gone-back : (x : List (List Element)) (j : ℕ) (h : j < 8) {m n : ℕ} {l : List ℤ} → Halves m n (step-back (entry (across x j h))) l
+    → Halves m n (step-back (λ u. entry (row x u) j)) l
+column-gone-back x j h C = record {
+  at = λ i k. rw (← step-back-cong (entry (across x j h)) (λ u. entry (row x u) j) i (λ u b. gathered .at u b)) (C .at i k);
+}
+  where
+    gathered : Row 8 (λ u. entry (row x u) j) (across x j h)
+    gathered = row-8 refl refl refl refl refl refl refl refl
+
 -- the step of a row x goes back to x
 sixteenth-exact : {a : List ℤ} → Eight a → sixteenth (scale (pos 16) a) ≡ a
 unfolding sixteenth
@@ -149,4 +71,16 @@ pub row-restored : (r x : ℕ → List ℤ) → ((n : ℕ) → n < 8 → Eight (
     → (n : ℕ) → n < 8 → row-back r n ≡ x n
 unfolding row-back step-back
 row-restored r x eights e n h =
-    ap sixteenth (sum-cong [] add 8 _ _ (λ k l. ap (λ a. mul a (factor k n)) (e k l)) ∙ row-inverse x eights n h) ∙ sixteenth-exact (eights n h)
+    ap sixteenth (step-back-cong r (step x) n e ∙ row-inverse x eights n h) ∙ sixteenth-exact (eights n h)
+
+-- a number divided by 8 is its double divided by 16
+shrZ-double : (z : ℤ) → shrZ (z +ℤ z) 16 ≡ shrZ z 8
+shrZ-double (pos a) = ap pos (omega arith)
+shrZ-double (negsuc a) = ap negsuc (omega arith)
+
+-- and so component 0 of x is restored by halves
+pub half-restored : (r x : ℕ → List ℤ) → ((n : ℕ) → n < 8 → Eight (x n)) → ((k : ℕ) → k < 8 → r k ≡ step x k)
+    → (n : ℕ) → n < 8 → {m : ℕ} {z : ℤ} → Half m (step-back r n) z → shrZ z 8 ≡ component (x n) 0
+unfolding row-back sixteenth
+half-restored r x eights e n h {z = z} Z =
+    sym (shrZ-double z) ∙ ap (λ y. shrZ y 16) (sym (Z .twice)) ∙ ap (λ a. component a 0) (row-restored r x eights e n h)

@@ -9,19 +9,22 @@
 // (`Restores`). For any others they round down, and what comes out is no block that has them. So forward decides: it has to accept what was
 // restored, and make the same 512 numbers of it.
 //
-// The transpose is factorised as the step is, with 22 products in place of 64. 32 bits suffice: a pass lets components grow sixteenfold at most, and then divides by 16, so that none is above the
-// limit of cause 4 when a pass begins (`small-row-back`); a pass could take 27 bits.
+// The rows take the whole transpose, which is factorised as the step is. The columns take component 0 of it alone, because samples are whole
+// numbers: `number_step_back` makes the halves of these components, without a product, and they are divided by 8.
+//
+// 32 bits suffice: a pass lets components grow sixteenfold at most, and then divides by 16, so that none is above the limit of cause 4 when a
+// pass begins (`small-row-back`); a pass could take 27 bits.
 ghost use mathlib.Core.Path.{_≡_};
-ghost use Prim.Native.Nat.{_%_, _*_, _+_, _/_};
+ghost use Prim.Native.Nat.{_%_, _*_, _+_, _/_, _<_};
 ghost use lib.ListN.{length};
+ghost use lib.Signed.{shrZ};
 ghost use Rattle.integers.specs.Table.{table};
 ghost use Rattle.integers.specs.Test.{eqList};
-ghost use Rattle.ring.specs.Element as ring;
-ghost use Rattle.dct.specs.Inverse.{even-back, odd-back, step-back};
 ghost use Rattle.dct.specs.Limits.{components-size, places};
 ghost use Rattle.elements.specs.Buffer.{Row, element-at, entry};
 ghost use Rattle.answers.specs.Answer.{returned};
-ghost use Rattle.transform.specs.Step.{Room, Rooms, Rows, row};
+ghost use Rattle.step.specs.Room.{Room};
+ghost use Rattle.transform.specs.Rows.{Rooms, Rows};
 ghost use Rattle.accepted_sets.specs.Sets.{AcceptedSet};
 ghost use Rattle.inverse.specs.Back.{back-returned, back-samples, is-block-of};
 ghost use Rattle.inverse.specs.Passes as passes;
@@ -30,61 +33,11 @@ use answers::Answer;
 use elements::COMPONENTS;
 use elements::Element;
 use elements::PLACES;
-use elements::add;
 use elements::element_at;
 use elements::only;
-use elements::subtract;
-use elements::times;
-use transform::difference_of_products;
+use number_step_back::number_step_back;
+use step_back::step_back;
 use transform::forward;
-use transform::sum_of_products;
-use transform::transposed;
-
-// What the frequencies 0, 2, 4 and 6 of a row give at the places 0 to 3; at 7 to 4 they give the same.
-fn even_back(e: [Element; 4]) -> [Element; 4]
-    requires { ⌜ Room 4 28 e ⌝ }
-    ensures { λ r. ⌜ Row 4 (even-back (entry e)) r ⌝ }
-{
-    let e0 = e[0];
-    let e2 = e[1];
-    let e4 = e[2];
-    let e6 = e[3];
-    let p0 = times(add(e0, e4), 4);
-    let p1 = times(subtract(e0, e4), 4);
-    let q0 = sum_of_products(e2, 2, e6, 6);
-    let q1 = difference_of_products(e2, 6, e6, 2);
-    let x0 = add(p0, q0);
-    let x1 = add(p1, q1);
-    let x2 = subtract(p1, q1);
-    let x3 = subtract(p0, q0);
-    [x0, x1, x2, x3]
-}
-
-// What the frequencies 1, 3, 5 and 7 give there; at 7 to 4 they give the negative. The matrix is symmetric, so this is the step's `odd` once
-// more: a function of its own, because two callers would keep the compiler from working it into either.
-fn odd_back(e: [Element; 4]) -> [Element; 4]
-    requires { ⌜ Room 4 28 e ⌝ }
-    ensures { λ r. ⌜ Row 4 (odd-back (entry e)) r ⌝ }
-{
-    let e1 = e[0];
-    let e3 = e[1];
-    let e5 = e[2];
-    let e7 = e[3];
-    let x0 = add(sum_of_products(e1, 1, e3, 3), sum_of_products(e5, 5, e7, 7));
-    let x1 = subtract(
-        difference_of_products(e1, 3, e3, 7),
-        sum_of_products(e5, 1, e7, 5),
-    );
-    let x2 = add(
-        difference_of_products(e1, 5, e3, 1),
-        sum_of_products(e5, 7, e7, 3),
-    );
-    let x3 = add(
-        difference_of_products(e1, 7, e3, 5),
-        difference_of_products(e5, 3, e7, 1),
-    );
-    [x0, x1, x2, x3]
-}
 
 // An element's components divided by 16: `>>` on an i32 rounds down.
 fn sixteenth(a: Element) -> Element
@@ -98,33 +51,6 @@ fn sixteenth(a: Element) -> Element
         k += 1;
     }
     Element { components: r }
-}
-
-// The eight places of a row, from what its even and its odd frequencies give at the places 0 to 3.
-fn butterflies(e: [Element; 4], o: [Element; 4]) -> [Element; 8]
-    requires { ⌜ Room 4 30 e ⌝ }
-    requires { ⌜ Room 4 30 o ⌝ }
-    ensures { λ r. ⌜ Row 8 (passes.butterfly (entry e) (entry o)) r ⌝ }
-{
-    let x0 = add(e[0], o[0]);
-    let x1 = add(e[1], o[1]);
-    let x2 = add(e[2], o[2]);
-    let x3 = add(e[3], o[3]);
-    let x4 = subtract(e[3], o[3]);
-    let x5 = subtract(e[2], o[2]);
-    let x6 = subtract(e[1], o[1]);
-    let x7 = subtract(e[0], o[0]);
-    [x0, x1, x2, x3, x4, x5, x6, x7]
-}
-
-// The transpose of the 8-point step over one row.
-fn step_back(x: [Element; 8]) -> [Element; 8]
-    requires { ⌜ Room 8 27 x ⌝ }
-    ensures { λ r. ⌜ Row 8 (step-back (entry x)) r ⌝ }
-{
-    let e = even_back([x[0], x[2], x[4], x[6]]);
-    let o = odd_back([x[1], x[3], x[5], x[7]]);
-    butterflies(e, o)
 }
 
 // The row whose step is x, if there is one.
@@ -142,51 +68,68 @@ fn row_back(x: [Element; 8]) -> [Element; 8]
     r
 }
 
-// Each row so.
-fn rows_back(x: [[Element; 8]; 8]) -> [[Element; 8]; 8]
-    requires { ⌜ Rooms 27 x ⌝ }
-    ensures { λ r. ⌜ Rows (λ i. passes.row-back (entry (row x i))) r ⌝ }
+// Row u of the elements in a buffer.
+fn row_of(elements: &[i32], u: usize) -> [Element; 8]
+    requires { ⌜ length (now elements) ≡ components-size ⌝ }
+    requires { ⌜ u < 8 ⌝ }
+    ensures { λ r. ⌜ Row 8 (λ v. element-at (now (elements .entry)) (8 * u + v)) r ⌝ }
 {
-    let mut r = x;
-    let mut i = 0;
-    while i < 8 {
-        r[i] = row_back(x[i]);
-        i += 1;
+    let zero = only(0, 0);
+    let mut r = [zero; 8];
+    let mut v = 0;
+    while v < 8 {
+        r[v] = element_at(elements, 8 * u + v);
+        v += 1;
     }
     r
 }
 
-// The elements of a buffer as eight rows of eight.
-fn load(elements: &[i32]) -> [[Element; 8]; 8]
-    requires { ⌜ length (now elements) ≡ components-size ⌝ }
-    ensures { λ r. ⌜ Rows (λ u v. element-at (now (elements .entry)) (8 * u + v)) r ⌝ }
+// Each row of the elements in a buffer so.
+fn rows_back(elements: &[i32]) -> [[Element; 8]; 8]
+    requires { ⌜ AcceptedSet (now elements) ⌝ }
+    ensures { λ r. ⌜ Rows (λ u. passes.row-back (λ v. element-at (now (elements .entry)) (8 * u + v))) r ⌝ }
 {
     let zero = only(0, 0);
     let mut r = [[zero; 8]; 8];
-    let mut n = 0;
-    while n < PLACES {
-        r[n / 8][n % 8] = element_at(elements, n);
-        n += 1;
+    let mut u = 0;
+    while u < 8 {
+        r[u] = row_back(row_of(elements, u));
+        u += 1;
     }
     r
 }
 
-// u_0
-fn component_0(a: Element) -> i32
-    ensures { λ r. ⌜ r ≡ ring.component (a .components) 0 ⌝ }
+// Component 0 of each column so, halved and not yet divided. The columns stand as rows.
+fn columns_back(x: [[Element; 8]; 8]) -> [[i32; 8]; 8]
+    requires { ⌜ Rooms 27 x ⌝ }
+    ensures { λ r. ⌜ passes.ColumnsBack x r ⌝ }
 {
-    let u = a.components;
-    u[0]
+    let mut r = [[0i32; 8]; 8];
+    let mut j = 0;
+    while j < 8 {
+        r[j] = number_step_back([
+            x[0][j],
+            x[1][j],
+            x[2][j],
+            x[3][j],
+            x[4][j],
+            x[5][j],
+            x[6][j],
+            x[7][j],
+        ]);
+        j += 1;
+    }
+    r
 }
 
-// The samples of a block whose columns stand as rows of whole numbers.
-fn samples_of(x: [[Element; 8]; 8]) -> [i32; 64]
-    ensures { λ r. ⌜ r ≡ table places (λ n. ring.component (entry (row x (n % 8)) (n / 8)) 0) ⌝ }
+// The samples of a block whose columns stand as rows: 16 times a sample was halved, and is divided by 8.
+fn samples_of(x: [[i32; 8]; 8]) -> [i32; 64]
+    ensures { λ r. ⌜ r ≡ table places (λ n. shrZ (passes.at x (n % 8) (n / 8)) 8) ⌝ }
 {
     let mut r = [0i32; 64];
     let mut n = 0;
     while n < PLACES {
-        r[n] = component_0(x[n % 8][n / 8]);
+        r[n] = x[n % 8][n / 8] >> 3;
         n += 1;
     }
     r
@@ -197,23 +140,22 @@ fn restored(elements: &[i32]) -> [i32; 64]
     requires { ⌜ AcceptedSet (now elements) ⌝ }
     ensures { λ r. ⌜ passes.Restores (now (elements .entry)) r ⌝ }
 {
-    samples_of(rows_back(transposed(rows_back(load(elements)))))
+    samples_of(columns_back(rows_back(elements)))
 }
 
-// Whether two buffers of 512 numbers hold the same.
+// Whether two buffers of 512 numbers hold the same. The loop goes on past a difference, so that the compiler can compare several numbers at once.
 fn same(a: &[i32], b: &[i32]) -> bool
     requires { ⌜ length (now a) ≡ components-size ⌝ }
     requires { ⌜ length (now b) ≡ components-size ⌝ }
     ensures { λ r. ⌜ r ≡ eqList (now (a .entry)) (now (b .entry)) ⌝ }
 {
+    let mut r = true;
     let mut i = 0;
     while i < COMPONENTS {
-        if a[i] != b[i] {
-            return false;
-        }
+        r = r & (a[i] == b[i]);
         i += 1;
     }
-    true
+    r
 }
 
 // Whether a block is in range and has these elements: forward accepts it, and makes the same 512 numbers.

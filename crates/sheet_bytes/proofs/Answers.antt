@@ -16,7 +16,8 @@ use Rattle.dct.specs.Limits.{components-size}
 use Rattle.answers.specs.Answer.{Returned, accepted}
 use Rattle.answers.proofs.Accepted.{accepted-written}
 use Rattle.sheet_checks.specs.Check.{word-at}
-use Rattle.sheets.specs.Sheet.{output-word, coefficient-sheet, sheet-returned, sheet-output}
+use Rattle.sheet_blocks.specs.Blocks.{output-word, coefficient-sheet}
+use Rattle.sheets.specs.Sheet.{sheet-returned, sheet-output}
 use Rattle.sheets.proofs.Causes.{accepted-checked, accepted-returns}
 use Rattle.sheet_bytes.specs.Program.{program-width, words-limit, byte-of, bytes-of, refusal-line, answer, bytes-for}
 

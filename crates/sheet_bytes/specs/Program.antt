@@ -10,7 +10,8 @@ use Rattle.integers.specs.Table.{table}
 use Rattle.dct.specs.Limits.{components-size}
 use Rattle.answers.specs.Answer.{Returned, accepted}
 use Rattle.sheet_checks.specs.Check.{word-at, blocks-limit, size-of}
-use Rattle.sheets.specs.Sheet.{coefficient-sheet, sheet-returned}
+use Rattle.sheet_blocks.specs.Blocks.{coefficient-sheet}
+use Rattle.sheets.specs.Sheet.{sheet-returned}
 
 -- "The program works at width 26, reads at most 32,780 bytes of standard input"
 

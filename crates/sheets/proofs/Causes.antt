@@ -21,8 +21,9 @@ use Rattle.words.specs.Word.{sample-head-kind}
 use Rattle.sheet_checks.specs.Check.{Searched, word-at, blocks, size-of, has-head, allowed-blocks, shape, cause-at, contents}
 use Rattle.sheet_checks.proofs.Faults.{cause-body}
 use Rattle.sheet_checks.proofs.Heads.{some-blocks, no-head, a-head}
-use Rattle.sheets.specs.Preconditions.{Checked}
-use Rattle.sheets.specs.Sheet.{sample-format, block, coefficient-sheet, sheet-output, sheet-returned, sheet-scratch}
+use Rattle.sheet_blocks.specs.Preconditions.{Checked}
+use Rattle.sheet_blocks.specs.Blocks.{block, coefficient-sheet}
+use Rattle.sheets.specs.Sheet.{sample-format, sheet-output, sheet-returned, sheet-scratch}
 use Rattle.sheets.proofs.Samples.{no-cause}
 
 module _ (words : List ℕ) (b s o : ℕ) where

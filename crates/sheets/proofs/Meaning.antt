@@ -24,11 +24,12 @@ use Rattle.rounding.proofs.Causes.{all-near}
 use Rattle.words.specs.Word.{across, coefficient-head-kind, coefficient-kind, down, kind, payload, payload-of, value, word}
 use Rattle.words.proofs.Packing.{kind-word, payload-word, payload-below, payload-of-below, small-in-range, value-of-payload}
 use Rattle.sheet_checks.specs.Check.{word-at, blocks}
-use Rattle.sheets.specs.Preconditions.{Checked}
-use Rattle.sheets.specs.Sheet.{block, block-coefficients, coefficient-sheet, coefficient-word, output-word, sheet-output, sheet-returned, sheet-scratch}
+use Rattle.sheet_blocks.specs.Preconditions.{Checked}
+use Rattle.sheet_blocks.specs.Blocks.{block, block-coefficients, coefficient-sheet, coefficient-word, output-word}
+use Rattle.sheets.specs.Sheet.{sheet-output, sheet-returned, sheet-scratch}
 use Rattle.sheets.proofs.Causes.{accepted-checked, accepted-returns}
-use Rattle.sheets.proofs.Output.{output-head, output-body, output-end}
-use Rattle.sheets.proofs.Samples.{block-words, block-range, block-fit}
+use Rattle.sheet_blocks.proofs.Output.{output-head, output-body, output-end}
+use Rattle.sheet_blocks.proofs.Samples.{block-words, block-range, block-fit}
 
 -- an accepted call
 

@@ -1,3 +1,2 @@
-pub mod Preconditions
-pub mod Reasons
 pub mod Sheet
+pub mod Reasons

@@ -1,20 +1,20 @@
 -- What the sheet job returns and leaves (01, "Sheets" and "Why a set or sheet is turned back"), for any words, any b and any buffers.
 use mathlib.Core.Path.{_≡_}
-use mathlib.Core.Bool.{true, cond, _&&_}
+use mathlib.Core.Bool.{true, _&&_}
 use mathlib.Core.List.{List}
-use Prim.Native.Nat.{ℕ, suc, _+_, _-_, _*_, _/_, _%_, _≤_, _<_}
+use Prim.Native.Nat.{ℕ, suc, _-_, _≤_, _<_}
 use lib.Dec.{eqb, leb}
 use lib.IntN.{ℤ, pos, negℤ}
-use lib.ListN.{length, getD}
-use Rattle.integers.specs.Table.{table, over}
-use Rattle.dct.specs.Limits.{places, components-size, in-range, sample-limit}
+use lib.ListN.{length}
+use Rattle.integers.specs.Table.{over}
+use Rattle.dct.specs.Limits.{components-size, in-range, sample-limit}
 use Rattle.answers.specs.Answer.{Returned, unless, accept-words, written}
 use Rattle.transform.specs.Forward.{elements-of}
-use Rattle.rounding.specs.Rounding.{coefficients-of}
 use Rattle.rounding.specs.Tables.{width}
-use Rattle.words.specs.Word.{across, coefficient-head-kind, coefficient-kind, down, end-kind, kind, payload, payload-of, sample-head-kind, sample-kind, value, word}
+use Rattle.words.specs.Word.{across, down, end-kind, kind, payload, sample-head-kind, sample-kind, value}
 use Rattle.sheet_checks.specs.declared.Format.{Format}
 use Rattle.sheet_checks.specs.Check.{word-at, blocks, blocks-limit, size-of, shape, contents}
+use Rattle.sheet_blocks.specs.Blocks.{block, coefficient-sheet}
 
 -- the format of a sample sheet: cause 2 refuses a sample that is out of range
 abbrev pub sample-format : Format
@@ -34,29 +34,6 @@ pub record SampleSheet (words : List ℕ) : Type 0 where
   pub sample-range : (i : ℕ) → 0 < i → suc i < length words → in-range (value (payload (word-at words i))) ≡ true
   pub of-end-kind : kind (word-at words (length words - 1)) ≡ end-kind
   pub end-count : payload (word-at words (length words - 1)) ≡ blocks words
-
--- the samples of block k: "64 words each, row by row", after the head
-unfoldable pub block : List ℕ → ℕ → List ℤ
-block words k = table places (λ i. value (payload (word-at words (1 + places * k + i))))
-
--- "the rounding at b of that block's exact elements"
-unfoldable pub block-coefficients : ℕ → List ℕ → ℕ → List ℤ
-block-coefficients b words k = coefficients-of b (elements-of (block words k))
-
--- the word of coefficient i
-abbrev pub coefficient-word : List ℤ → ℕ → ℕ
-coefficient-word coefficients i = word coefficient-kind (payload-of (getD coefficients i (pos 0)))
-
--- word i of the output: "a head of kind 4 with the same sizes, then for each block 64 words of kind 3, [..], then the same end word"
-unfoldable pub output-word : ℕ → List ℕ → ℕ → ℕ
-output-word b words i =
-    cond (eqb i 0) (word coefficient-head-kind (payload (word-at words 0)))
-    (cond (eqb (suc i) (length words)) (word-at words i)
-    (coefficient-word (block-coefficients b words ((i - 1) / places)) ((i - 1) % places)))
-
--- the coefficient sheet of a sample sheet, which has as many words
-unfoldable pub coefficient-sheet : ℕ → List ℕ → List ℕ
-coefficient-sheet b words = table (length words) (output-word b words)
 
 -- causes 3, 6, 7 for the count, 1, and then the first faulty word's; of the buffers only the lengths count
 unfoldable pub sheet-returned : List ℕ → ℕ → ℕ → ℕ → Returned

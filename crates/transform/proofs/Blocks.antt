@@ -1,15 +1,16 @@
 -- The steps over columns and then rows make the exact elements of a block, and there is room for each.
 -- Assumes nothing.
-use mathlib.Core.Path.{_≡_, sym, ap, _∙_}
-use mathlib.Core.List.{List, []}
+use mathlib.Core.Path.{_≡_, refl, sym, ap, _∙_}
+use mathlib.Core.List.{List, [], _∷_}
 use Prim.Native.Nat.{ℕ, _+_, _*_, _/_, _%_, _≤_, _<_}
 use native.Mathlib.Nat.{le-trans}
 use native.Mathlib.Omega.{arith}
 use lib.Dec.{lit<, lit≤}
-use lib.IntN.{ℤ, pos, natAbs}
+use lib.IntN.{ℤ, natAbs}
+use lib.ListN.{getD}
 use Rattle.integers.specs.Table.{table}
 use Rattle.integers.proofs.Sums.{sum-cong}
-use Rattle.integers.proofs.Tables.{is-table, getD-table, length-table}
+use Rattle.integers.proofs.Tables.{table-ext}
 use Rattle.ring.specs.Element.{component, add, number, mul, magnitudes}
 use Rattle.ring.proofs.Magnitude.{component-le}
 use Rattle.ring.proofs.Components.{Eight, eight-only, eight-mul, eight-sum}
@@ -19,10 +20,13 @@ use Rattle.dct.proofs.Factors.{eight-factor}
 use Rattle.dct.proofs.Bound.{bound}
 use Rattle.dct.proofs.Dimensions.{first-dimension, element-double-sum, columns-then-rows}
 use Rattle.elements.specs.declared.Element.{Element}
-use Rattle.elements.specs.Buffer.{entry}
+use Rattle.elements.specs.Buffer.{Row, entry}
 use Rattle.elements.proofs.Bounds.{within-le, within-only}
+use Rattle.step.specs.Room.{Room}
+use Rattle.step.proofs.Halves.{row-8}
+use Rattle.number_step.specs.Numbers.{Numbers}
 use Rattle.transform.specs.Forward.{sample, AllInRange, elements-of}
-use Rattle.transform.specs.Step.{Rows, Rooms, row}
+use Rattle.transform.specs.Rows.{Rows, Rooms, row}
 use Rattle.transform.proofs.Range.{in-range-small}
 
 step-cong : (r s : ℕ → List ℤ) (k : ℕ) → ((n : ℕ) → n < 8 → r n ≡ s n) → step r k ≡ step s k
@@ -51,48 +55,60 @@ module _ {x : List ℤ} (range : AllInRange x) where
   frequencies-small j u h k =
       rw (first-dimension (column x j) u k) at (bound 0 sample-limit (column x j) (λ i l. small (8 * i + j) (omega arith)) u)
 
-  pub room-columns : {c : List (List Element)} → Rows (λ j i. number (column x j i)) c → Rooms 27 c
-  room-columns C = record {
+  -- what the step over a column asks
+  pub room-column : {c : List Element} (j : ℕ) → j < 8 → Row 8 (λ i. number (column x j i)) c → Room 8 27 c
+  room-column j h C = record {
+    eights = λ i l. rw (C .at i l) (eight-only (column x j i) 0 .eight);
+    within = λ i l. rw (C .at i l) (within-le (le-trans (small (8 * i + j) (omega arith)) (lit≤ tt)) (within-only (column x j i) 0));
+  }
+
+  pub room-rows : {s : List (List Element)} → Rows (frequencies x) s → Rooms 27 s
+  room-rows S = record {
     rooms = λ j h. record {
-      eights = λ i l. rw (C .at j h .at i l) (eight-only (column x j i) 0 .eight);
-      within = λ i l. rw (C .at j h .at i l) (within-le (le-trans (small (8 * i + j) (omega arith)) (lit≤ tt)) (within-only (column x j i) 0));
+      eights = λ u l. rw (S .at j h .at u l) (eight-frequencies x j u .eight);
+      within = λ u l. rw (S .at j h .at u l) (record { within = λ k. le-trans (component-le (frequencies x j u) k) (le-trans (frequencies-small j u h l) (lit≤ tt)) });
     };
   }
 
-  pub room-rows : {t : List (List Element)} → Rows (λ u j. frequencies x j u) t → Rooms 27 t
-  room-rows T = record {
-    rooms = λ u h. record {
-      eights = λ j l. rw (T .at u h .at j l) (eight-frequencies x j u .eight);
-      within = λ j l. rw (T .at u h .at j l) (record { within = λ k. le-trans (component-le (frequencies x j u) k) (le-trans (frequencies-small j u l h) (lit≤ tt)) });
-    };
+pub number-column : (x : List ℤ) {c : List Element} (j : ℕ) → Row 8 (λ i. number (column x j i)) c → Numbers 8 c
+number-column x j C = record { whole = λ i l. C .at i l ∙ ap (λ a. number (component a 0)) (sym (C .at i l)) }
+
+pub stepped-column : (x : List ℤ) {c e : List Element} (j : ℕ) → Row 8 (λ i. number (column x j i)) c → Row 8 (step (entry c)) e → Row 8 (frequencies x j) e
+stepped-column x {c} j C E = record { at = λ u h. E .at u h ∙ step-cong (entry c) (λ i. number (column x j i)) u (λ i l. C .at i l) }
+
+-- the elements at place u of every column, as the code takes them
+module _ (x : List (List Element)) (u : ℕ) (h : u < 8) where
+  abbrev at : ℕ → Element
+  at j = getD (row x j) u (record { components = [] })
+
+  abbrev pub across : List Element
+  across = at 0 ∷ at 1 ∷ at 2 ∷ at 3 ∷ at 4 ∷ at 5 ∷ at 6 ∷ at 7 ∷ []
+
+  across-is : Row 8 (λ j. entry (row x j) u) across
+  across-is = row-8 refl refl refl refl refl refl refl refl
+
+  pub room-across : Rooms 27 x → Room 8 27 across
+  room-across R = record {
+    eights = λ j l. rw (across-is .at j l) (R .rooms j l .eights u h);
+    within = λ j l. rw (across-is .at j l) (R .rooms j l .within u h);
   }
+
+  pub stepped-across : {e : List Element} → Row 8 (step (entry across)) e → Row 8 (step (λ j. entry (row x j) u)) e
+  stepped-across E = record { at = λ v l. E .at v l ∙ step-cong (entry across) (λ j. entry (row x j) u) v (λ j k. across-is .at j k) }
 
 -- columns, then rows
 
-module _ (x : List ℤ) {c s t : List (List Element)} (C : Rows (λ j i. number (column x j i)) c) (S : Rows (λ j. step (entry (row c j))) s)
-    (T : Rows (λ u j. entry (row s j) u) t) where
-  pub turned : Rows (λ u j. frequencies x j u) t
-  turned = record {
-    at = λ u h. record {
-      at = λ j l.
-          T .at u h .at j l ∙ S .at j l .at u h ∙ step-cong (entry (row c j)) (λ i. number (column x j i)) u (λ i k. C .at j l .at i k);
-    };
-  }
+module _ (x : List ℤ) {s : List (List Element)} (S : Rows (frequencies x) s) where
+  exact : (u v : ℕ) → u < 8 → v < 8 → step (λ j. entry (row s j) u) v ≡ element 2 (sample x) (8 * u + v)
+  exact u v h k =
+      step-cong (λ j. entry (row s j) u) (λ j. frequencies x j u) v (λ j l. S .at j l .at u h)
+      ∙ sym (columns-then-rows (λ i j. sample x (8 * i + j)) u v) ∙ sym (element-double-sum (sample x) u v h k)
 
-  module _ {e : List (List Element)} (E : Rows (λ u. step (entry (row t u))) e) where
-    exact : (u v : ℕ) → u < 8 → v < 8 → entry (row e u) v ≡ element 2 (sample x) (8 * u + v)
-    exact u v h k =
-        E .at u h .at v k ∙ step-cong (entry (row t u)) (λ j. frequencies x j u) v (λ j l. turned .at u h .at j l)
-        ∙ sym (columns-then-rows (λ i j. sample x (8 * i + j)) u v) ∙ sym (element-double-sum (sample x) u v h k)
-
-    pub stored-elements : table components-size (λ i. component (entry (row e (i / 8 / 8)) (i / 8 % 8)) (i % 8)) ≡ elements-of x
-    unfolding elements-of
-    stored-elements = is-table (pos 0) (table components-size f) components-size _ (length-table components-size f) (λ i h. getD-table components-size f (pos 0) i h ∙ same i h)
-      where
-        f : ℕ → ℤ
-        f i = component (entry (row e (i / 8 / 8)) (i / 8 % 8)) (i % 8)
-
-        same : (i : ℕ) → i < 512 → f i ≡ component (element 2 (sample x) (i / 8)) (i % 8)
-        same i h =
-            let p : 8 * (i / 8 / 8) + i / 8 % 8 ≡ i / 8 = omega arith in
-            ap (λ a. component a (i % 8)) (exact (i / 8 / 8) (i / 8 % 8) (omega arith) (omega arith) ∙ ap (λ (n : ℕ). element 2 (sample x) n) p)
+  pub stored-elements : table components-size (λ i. component (step (λ j. entry (row s j) (i / 8 / 8)) (i / 8 % 8)) (i % 8)) ≡ elements-of x
+  unfolding elements-of
+  stored-elements = table-ext components-size _ _ same
+    where
+      same : (i : ℕ) → i < 512 → component (step (λ j. entry (row s j) (i / 8 / 8)) (i / 8 % 8)) (i % 8) ≡ component (element 2 (sample x) (i / 8)) (i % 8)
+      same i h =
+          let p : 8 * (i / 8 / 8) + i / 8 % 8 ≡ i / 8 = omega arith in
+          ap (λ a. component a (i % 8)) (exact (i / 8 / 8) (i / 8 % 8) (omega arith) (omega arith) ∙ ap (λ (n : ℕ). element 2 (sample x) n) p)

@@ -1,6 +1,5 @@
--- The halves of a step and their room, grids of elements, what they make of a block, the ways out of the job, and what it leaves.
-pub mod Halves
-pub mod Grids
+-- What columns and then rows make of a block, the store of it, the ways out of the job, and what it leaves.
+pub mod Stores
 pub mod Range
 pub mod Blocks
 pub mod Refusals

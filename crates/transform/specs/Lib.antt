@@ -1,2 +1,2 @@
 pub mod Forward
-pub mod Step
+pub mod Rows

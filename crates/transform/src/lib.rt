@@ -1,17 +1,14 @@
 // The exact transform of a block (01, "Elements"): 64 samples become 64 elements of eight components each.
 //
 // `forward` takes any buffers. An accepted call leaves the exact elements; a refused one leaves the buffer as it was, and names the first
-// cause. The work goes by columns, then rows: the columns of a block stand as eight rows of eight elements, a step goes over each, rows
-// and columns change places, and a step goes over each again. Nothing is rounded or shifted on the way.
+// cause. The work goes by columns, then rows: a step over each column makes a row of eight elements, and a step over what stands at one
+// place of these eight rows makes eight of the block's elements. The columns are whole numbers, which makes their steps nearly free. Nothing is
+// rounded or shifted on the way.
 //
-// The 8-point step is factorised: butterflies first, the sums x_n + x_(7-n) and the differences x_n - x_(7-n), n from 0 to 3; the even
-// frequencies from the sums, by two more levels of butterflies, and the odd ones from the differences. It has 22 products with a cosine
-// in place of 64, each of which is eight additions. 32 bits suffice: a step adds four bits to what its elements need, so that elements
-// of 27 bits besides the sign still fit (`Room`), and samples, of 12 such bits at most, need 20 after two steps.
+// 32 bits suffice: a step adds four bits to what its elements need, so that samples, of 12 bits besides the sign, need 20 after two steps.
 ghost use mathlib.Core.Path.{_≡_};
 ghost use mathlib.Core.Bool.{not};
-ghost use Prim.Native.Nat.{_%_, _*_, _+_, _-_, _/_, _<_};
-ghost use lib.IntN.{pos};
+ghost use Prim.Native.Nat.{_%_, _*_, _+_, _/_, _<_};
 ghost use lib.ListN.{length};
 ghost use Rattle.integers.specs.Search.{first};
 ghost use Rattle.integers.specs.Table.{table};
@@ -19,182 +16,88 @@ ghost use Rattle.ring.specs.Element as ring;
 ghost use Rattle.dct.specs.Limits.{components-size, in-range, places};
 ghost use Rattle.dct.specs.Transform as dct;
 ghost use Rattle.answers.specs.Answer.{returned};
-ghost use Rattle.elements.specs.Bound.{Within, bits};
 ghost use Rattle.elements.specs.Buffer.{Row, entry};
-ghost use Rattle.transform.specs.Forward.{forward-elements, forward-returned, sample};
-ghost use Rattle.transform.specs.Step.{Room, Rooms, Rows, row};
+ghost use Rattle.transform.specs.Forward.{AllInRange, forward-elements, forward-returned, sample};
+ghost use Rattle.transform.specs.Rows.{Rooms, RowStored, Rows, row};
 use answers::Answer;
 use elements::COMPONENTS;
 use elements::Element;
 use elements::PLACES;
-use elements::add;
 use elements::only;
 use elements::put;
-use elements::subtract;
-use elements::times;
+use number_step::number_step;
+use step::step;
 
 // The range of samples.
 pub const LOWEST_SAMPLE: i32 = -2048;
 
 pub const HIGHEST_SAMPLE: i32 = 2047;
 
-// c_j × a + c_k × b
-pub fn sum_of_products(a: Element, j: usize, b: Element, k: usize) -> Element
-    requires { ⌜ Within (bits 29) (a .components) ⌝ }
-    requires { ⌜ Within (bits 29) (b .components) ⌝ }
-    requires { ⌜ j < 8 ⌝ }
-    requires { ⌜ k < 8 ⌝ }
-    ensures { λ r. ⌜ r .components ≡ ring.add (ring.mul (ring.cosine (pos j)) (a .components)) (ring.mul (ring.cosine (pos k)) (b .components)) ⌝ }
-{
-    add(times(a, j), times(b, k))
-}
-
-// c_j × a - c_k × b
-pub fn difference_of_products(a: Element, j: usize, b: Element, k: usize) -> Element
-    requires { ⌜ Within (bits 29) (a .components) ⌝ }
-    requires { ⌜ Within (bits 29) (b .components) ⌝ }
-    requires { ⌜ j < 8 ⌝ }
-    requires { ⌜ k < 8 ⌝ }
-    ensures { λ r. ⌜ r .components ≡ ring.subtract (ring.mul (ring.cosine (pos j)) (a .components)) (ring.mul (ring.cosine (pos k)) (b .components)) ⌝ }
-{
-    subtract(times(a, j), times(b, k))
-}
-
-// The frequencies 0, 2, 4 and 6, from the four sums of a row.
-fn even(s: [Element; 4]) -> [Element; 4]
-    requires { ⌜ Room 4 28 s ⌝ }
-    ensures { λ r. ⌜ Row 4 (λ i. dct.half-step (entry s) (2 * i)) r ⌝ }
-{
-    let s0 = s[0];
-    let s1 = s[1];
-    let s2 = s[2];
-    let s3 = s[3];
-    let p0 = add(s0, s3);
-    let p1 = add(s1, s2);
-    let q0 = subtract(s0, s3);
-    let q1 = subtract(s1, s2);
-    let e0 = times(add(p0, p1), 4);
-    let e2 = sum_of_products(q0, 2, q1, 6);
-    let e4 = times(subtract(p0, p1), 4);
-    let e6 = difference_of_products(q0, 6, q1, 2);
-    [e0, e2, e4, e6]
-}
-
-// The frequencies 1, 3, 5 and 7, from its four differences.
-fn odd(d: [Element; 4]) -> [Element; 4]
-    requires { ⌜ Room 4 28 d ⌝ }
-    ensures { λ r. ⌜ Row 4 (λ i. dct.half-step (entry d) (2 * i + 1)) r ⌝ }
-{
-    let d0 = d[0];
-    let d1 = d[1];
-    let d2 = d[2];
-    let d3 = d[3];
-    let e1 = add(sum_of_products(d0, 1, d1, 3), sum_of_products(d2, 5, d3, 7));
-    let e3 = subtract(
-        difference_of_products(d0, 3, d1, 7),
-        sum_of_products(d2, 1, d3, 5),
-    );
-    let e5 = add(
-        difference_of_products(d0, 5, d1, 1),
-        sum_of_products(d2, 7, d3, 3),
-    );
-    let e7 = add(
-        difference_of_products(d0, 7, d1, 5),
-        difference_of_products(d2, 3, d3, 1),
-    );
-    [e1, e3, e5, e7]
-}
-
-// x_n + x_(7-n), for n from 0 to 3.
-fn sums(x: [Element; 8]) -> [Element; 4]
-    requires { ⌜ Room 8 27 x ⌝ }
-    ensures { λ r. ⌜ Row 4 (λ n. ring.add (entry x n) (entry x (7 - n))) r ⌝ }
-{
-    let mut r = [x[0]; 4];
-    let mut n = 0;
-    while n < 4 {
-        r[n] = add(x[n], x[7 - n]);
-        n += 1;
-    }
-    r
-}
-
-// x_n - x_(7-n), for n from 0 to 3.
-fn differences(x: [Element; 8]) -> [Element; 4]
-    requires { ⌜ Room 8 27 x ⌝ }
-    ensures { λ r. ⌜ Row 4 (λ n. ring.subtract (entry x n) (entry x (7 - n))) r ⌝ }
-{
-    let mut r = [x[0]; 4];
-    let mut n = 0;
-    while n < 4 {
-        r[n] = subtract(x[n], x[7 - n]);
-        n += 1;
-    }
-    r
-}
-
-// The 8-point step over one row.
-fn step(x: [Element; 8]) -> [Element; 8]
-    requires { ⌜ Room 8 27 x ⌝ }
-    ensures { λ r. ⌜ Row 8 (dct.step (entry x)) r ⌝ }
-{
-    let e = even(sums(x));
-    let o = odd(differences(x));
-    [e[0], o[0], e[1], o[1], e[2], o[2], e[3], o[3]]
-}
-
-// The samples of a block as whole numbers, each column of the block a row.
-fn columns(samples: &[i32]) -> [[Element; 8]; 8]
+// Column j of a block, as a row of whole numbers.
+fn column(samples: &[i32], j: usize) -> [Element; 8]
     requires { ⌜ length (now samples) ≡ places ⌝ }
-    ensures { λ r. ⌜ Rows (λ j i. ring.number (sample (now (samples .entry)) (8 * i + j))) r ⌝ }
+    requires { ⌜ j < 8 ⌝ }
+    ensures { λ r. ⌜ Row 8 (λ i. ring.number (sample (now (samples .entry)) (8 * i + j))) r ⌝ }
 {
     let zero = only(0, 0);
-    let mut r = [[zero; 8]; 8];
-    let mut n = 0;
-    while n < PLACES {
-        r[n / 8][n % 8] = only(samples[8 * (n % 8) + n / 8], 0);
-        n += 1;
-    }
-    r
-}
-
-// A step over each row.
-fn steps(x: [[Element; 8]; 8]) -> [[Element; 8]; 8]
-    requires { ⌜ Rooms 27 x ⌝ }
-    ensures { λ r. ⌜ Rows (λ i. dct.step (entry (row x i))) r ⌝ }
-{
-    let mut r = x;
+    let mut r = [zero; 8];
     let mut i = 0;
     while i < 8 {
-        r[i] = step(x[i]);
+        r[i] = only(samples[8 * i + j], 0);
         i += 1;
     }
     r
 }
 
-// Rows and columns change places.
-pub fn transposed(x: [[Element; 8]; 8]) -> [[Element; 8]; 8]
-    ensures { λ r. ⌜ Rows (λ i j. entry (row x j) i) r ⌝ }
+// A step over each column; what it makes stands as a row.
+fn columns(samples: &[i32]) -> [[Element; 8]; 8]
+    requires { ⌜ length (now samples) ≡ places ⌝ }
+    requires { ⌜ AllInRange (now samples) ⌝ }
+    ensures { λ r. ⌜ Rows (λ j. dct.step (λ i. ring.number (sample (now (samples .entry)) (8 * i + j)))) r ⌝ }
 {
     let zero = only(0, 0);
     let mut r = [[zero; 8]; 8];
-    let mut n = 0;
-    while n < PLACES {
-        r[n / 8][n % 8] = x[n % 8][n / 8];
-        n += 1;
+    let mut j = 0;
+    while j < 8 {
+        r[j] = number_step(column(samples, j));
+        j += 1;
     }
     r
 }
 
-// All elements into a buffer.
-fn store(e: [[Element; 8]; 8], elements: &mut [i32])
+// The elements of row u into a buffer.
+fn store_row(e: [Element; 8], u: usize, elements: &mut [i32])
+    requires { ⌜ u < 8 ⌝ }
     requires { ⌜ length (now elements) ≡ components-size ⌝ }
-    ensures { λ r. ⌜ now (elements .exit) ≡ table components-size (λ i. ring.component (entry (row e (i / 8 / 8)) (i / 8 % 8)) (i % 8)) ⌝ }
+    ensures { λ r. ⌜ RowStored e u (now (elements .entry)) (now (elements .exit)) ⌝ }
 {
-    let mut p = 0;
-    while p < PLACES {
-        put(elements, p, e[p / 8][p % 8]);
-        p += 1;
+    let mut v = 0;
+    while v < 8 {
+        put(elements, 8 * u + v, e[v]);
+        v += 1;
+    }
+}
+
+// A step over each row of the block, which is what stands at one place of every column; the elements that it makes go into a buffer.
+fn rows(x: [[Element; 8]; 8], elements: &mut [i32])
+    requires { ⌜ Rooms 27 x ⌝ }
+    requires { ⌜ length (now elements) ≡ components-size ⌝ }
+    ensures { λ r. ⌜ now (elements .exit) ≡ table components-size (λ i. ring.component (dct.step (λ j. entry (row x j) (i / 8 / 8)) (i / 8 % 8)) (i % 8)) ⌝ }
+{
+    let mut u = 0;
+    while u < 8 {
+        let e = step([
+            x[0][u],
+            x[1][u],
+            x[2][u],
+            x[3][u],
+            x[4][u],
+            x[5][u],
+            x[6][u],
+            x[7][u],
+        ]);
+        store_row(e, u, elements);
+        u += 1;
     }
 }
 
@@ -235,6 +138,6 @@ pub fn forward(samples: &[i32], elements: &mut [i32]) -> Answer
     if i < PLACES {
         return Answer::Sample(i);
     }
-    store(steps(transposed(steps(columns(samples)))), elements);
+    rows(columns(samples), elements);
     Answer::Accepted(0)
 }

@@ -1,33 +1,35 @@
--- `rows_back` meets its contract: one row after the other.
+-- `rows_back` meets its contract: row after row, as `row_back` makes it.
 -- Assumes nothing.
+use mathlib.Core.Path.{refl}
 use mathlib.Core.List.{[]}
-use Prim.Native.Nat.{_-_}
+use Prim.Native.Nat.{_+_, _*_, _-_}
 use native.Mathlib.Omega.{arith}
-use borrow.Author.Needs.{needs}
+use lib.Dec.{lit<}
 use Rattle.integers.proofs.Tables.{Each, each-none, each-more}
-use Rattle.elements.specs.Buffer.{Row, entry}
-use Rattle.transform.specs.Step.{row}
+use Rattle.elements.specs.Buffer.{Row, element-at}
 use Rattle.inverse.specs.Passes.{row-back}
+use Rattle.inverse.proofs.Blocks.{room-row}
+use Rattle.inverse.proofs.Rows.{row-gone-back}
 use Rattle.inverse.proofs.rows_back.Statement.{statement}
 use Rattle.inverse.proofs.rows_back.Tie as tie
 
 abbrev Inv-loop : tie.InvT-loop
-Inv-loop x r₀ i₀ r i = Each [] 8 (λ i. Row 8 (row-back (entry (row x i)))) i r
+Inv-loop elements r₀ u₀ r u = Each [] 8 (λ u. Row 8 (row-back (λ v. element-at elements (8 * u + v)))) u r
 
 abbrev μ-loop : tie.MeasureT-loop
-μ-loop x r₀ i₀ r i = 8 - i
+μ-loop elements r₀ u₀ r u = 8 - u
+
+only-requires : tie.Need-only-requires Inv-loop μ-loop
+only-requires c κs = lit< tt
 
 loop-holds : tie.Need-loop-holds Inv-loop μ-loop
-loop-holds c = each-none (search needs)
+loop-holds c = each-none refl
 
-mul-row-back : tie.Need-mul-row-back Inv-loop μ-loop
-mul-row-back c = omega arith
-
-array-copy-out-row-back : tie.Need-array-copy-out-row-back Inv-loop μ-loop
-array-copy-out-row-back c = omega arith
+row-of-requires : tie.Need-row-of-requires Inv-loop μ-loop
+row-of-requires c κs = (c .before .before .before .pre .size, omega arith)
 
 row-back-requires : tie.Need-row-back-requires Inv-loop μ-loop
-row-back-requires c κs = c .before .before .before .pre .rooms (c .before .before .loop .i) (omega arith)
+row-back-requires c κs = room-row (c .before .before .before .before .pre) (c .before .before .loop .u) (omega arith) (c .row-of .ensures)
 
 mul-r : tie.Need-mul-r Inv-loop μ-loop
 mul-r c = omega arith
@@ -35,19 +37,20 @@ mul-r c = omega arith
 array-set-from-r : tie.Need-array-set-from-r Inv-loop μ-loop
 array-set-from-r c = omega arith
 
-add-i : tie.Need-add-i Inv-loop μ-loop
-add-i c = omega arith
+add-u : tie.Need-add-u Inv-loop μ-loop
+add-u c = omega arith
 
 loop-less : tie.Need-loop-less Inv-loop μ-loop
 loop-less c = omega arith
 
 loop-again : tie.Need-loop-again Inv-loop μ-loop
-loop-again c = each-more (omega arith) (c .before .before .before .loop .inv) (c .row-back .ensures)
+loop-again c = each-more (omega arith) (c .before .before .before .loop .inv) (row-gone-back (c .before .row-of .ensures) (c .row-back .ensures))
 
 returns : tie.Need-returns Inv-loop μ-loop
-returns c = record { at = λ i h. c .before .loop .inv .done i (omega arith) }
+returns c = record { at = λ u h. c .before .loop .inv .done u (omega arith) }
 
 pub rows-back-spec : {M : Type 1} → statement M
 rows-back-spec =
     tie.close
-    (tie.spec Inv-loop μ-loop loop-holds mul-row-back array-copy-out-row-back row-back-requires mul-r array-set-from-r add-i loop-less loop-again returns)
+    (tie.spec Inv-loop μ-loop only-requires loop-holds row-of-requires row-back-requires mul-r array-set-from-r add-u loop-less loop-again
+    returns)

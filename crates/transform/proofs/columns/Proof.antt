@@ -1,76 +1,59 @@
--- `columns` meets its contract: the loop fills the grid place by place, row by row.
+-- `columns` meets its contract: column after column, as `number_step` makes it.
 -- Assumes nothing.
-use mathlib.Core.Path.{_≡_, ap, _∙_}
-use Prim.Native.Nat.{_+_, _*_, _-_, _/_, _%_}
+use mathlib.Core.Path.{refl}
+use mathlib.Core.List.{[]}
+use Prim.Native.Nat.{_-_}
 use native.Mathlib.Omega.{arith}
 use lib.Dec.{lit<}
-use mir.Syntax.{w32}
-use mir.Val.{ofZ, toZ}
-use mir.Facts.{toZ-ofZ}
-use borrow.Author.Needs.{needs}
-use Rattle.ring.specs.Element.{number}
-use Rattle.transform.specs.Forward.{sample}
-use Rattle.transform.proofs.Grids.{Grid, grid-none, grid-more, grid-all}
+use Rattle.integers.proofs.Tables.{Each, each-none, each-more}
+use Rattle.elements.specs.Buffer.{Row}
+use Rattle.transform.proofs.Blocks.{frequencies, room-column, number-column, stepped-column}
 use Rattle.transform.proofs.columns.Statement.{statement}
 use Rattle.transform.proofs.columns.Tie as tie
 
 abbrev Inv-loop : tie.InvT-loop
-Inv-loop samples r₀ n₀ r n = Grid (λ j i. number (sample samples (8 * i + j))) n r
+Inv-loop samples r₀ j₀ r j = Each [] 8 (λ j. Row 8 (frequencies samples j)) j r
 
 abbrev μ-loop : tie.MeasureT-loop
-μ-loop samples r₀ n₀ r n = 64 - n
+μ-loop samples r₀ j₀ r j = 8 - j
 
 only-requires : tie.Need-only-requires Inv-loop μ-loop
 only-requires c κs = lit< tt
 
 loop-holds : tie.Need-loop-holds Inv-loop μ-loop
-loop-holds c = grid-none (c .only .result)
+loop-holds c = each-none refl
 
-mul-only : tie.Need-mul-only Inv-loop μ-loop
-mul-only c = omega arith
+column-requires : tie.Need-column-requires Inv-loop μ-loop
+column-requires c κs = (c .before .before .before .pre .0, omega arith)
 
-add-only : tie.Need-add-only Inv-loop μ-loop
-add-only c = omega arith
+number-step-requires : tie.Need-number-step-requires Inv-loop μ-loop
+number-step-requires c κs =
+    let start = c .before .before .before .before in
+    let j = c .before .before .loop .j in
+    (room-column (start .pre .1) j (omega arith) (c .column .ensures), number-column (start .args .samples .now) j (c .column .ensures))
 
-mul-only-2 : tie.Need-mul-only-2 Inv-loop μ-loop
-mul-only-2 c = omega arith
+mul-r : tie.Need-mul-r Inv-loop μ-loop
+mul-r c = omega arith
 
-shared-slice-copy-out-only : tie.Need-shared-slice-copy-out-only Inv-loop μ-loop
-shared-slice-copy-out-only c = omega arith
+array-set-from-r : tie.Need-array-set-from-r Inv-loop μ-loop
+array-set-from-r c = omega arith
 
-only-requires-2 : tie.Need-only-requires-2 Inv-loop μ-loop
-only-requires-2 c κs = lit< tt
-
-mul-t17 : tie.Need-mul-t17 Inv-loop μ-loop
-mul-t17 c = omega arith
-
-mul-t20 : tie.Need-mul-t20 Inv-loop μ-loop
-mul-t20 c = omega arith
-
-index-1-r : tie.Need-index-1-r Inv-loop μ-loop
-index-1-r c = omega arith
-
-index-2-r : tie.Need-index-2-r Inv-loop μ-loop
-index-2-r c = omega arith
-
-add-n : tie.Need-add-n Inv-loop μ-loop
-add-n c = omega arith
+add-j : tie.Need-add-j Inv-loop μ-loop
+add-j c = omega arith
 
 loop-less : tie.Need-loop-less Inv-loop μ-loop
 loop-less c = omega arith
 
 loop-again : tie.Need-loop-again Inv-loop μ-loop
 loop-again c =
-    let n = c .before .before .before .loop .n in
-    let x = sample (c .before .before .before .before .before .args .samples .now) (8 * (n % 8) + n / 8) in
-    let read : toZ w32 (ofZ w32 x) ≡ x = toZ-ofZ (search needs) in
-    grid-more (omega arith) (c .before .before .before .loop .inv) (c .only2 .ensures ∙ ap number read)
+    let x = c .before .before .before .before .before .args .samples .now in
+    let loop = c .before .before .before in
+    each-more (omega arith) (loop .loop .inv) (stepped-column x (loop .loop .j) (c .before .column .ensures) (c .number-step .ensures))
 
 returns : tie.Need-returns Inv-loop μ-loop
-returns c = grid-all (omega arith) (c .before .loop .inv)
+returns c = record { at = λ j h. c .before .loop .inv .done j (omega arith) }
 
 pub columns-spec : {M : Type 1} → statement M
 columns-spec =
     tie.close
-    (tie.spec Inv-loop μ-loop only-requires loop-holds mul-only add-only mul-only-2 shared-slice-copy-out-only only-requires-2 mul-t17 mul-t20
-    index-1-r index-2-r add-n loop-less loop-again returns)
+    (tie.spec Inv-loop μ-loop only-requires loop-holds column-requires number-step-requires mul-r array-set-from-r add-j loop-less loop-again returns)

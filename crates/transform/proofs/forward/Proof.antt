@@ -3,7 +3,7 @@
 use mathlib.Core.Path.{_∙_}
 use native.Mathlib.Omega.{arith}
 use borrow.Author.Needs.{needs}
-use Rattle.transform.proofs.Blocks.{room-columns, room-rows, turned, stored-elements}
+use Rattle.transform.proofs.Blocks.{room-rows, stored-elements}
 use Rattle.transform.proofs.Refusals.{wrong-samples, wrong-elements, faulty-sample, no-fault, all-in-range}
 use Rattle.transform.proofs.forward.Statement.{statement}
 use Rattle.transform.proofs.forward.Tie as tie
@@ -20,32 +20,24 @@ first-outside-requires c κs = search needs
 returns-3 : tie.Need-returns-3
 returns-3 c = faulty-sample _ _ (c .before .before .before .if1 .left) (c .before .before .if2 .left) _ (c .before .first-outside .ensures) (c .if3 .taken)
 
-columns-requires : tie.Need-columns-requires
-columns-requires c κs = search needs
-
 -- past the search that `found` ends, every sample is in range
-steps-requires : tie.Need-steps-requires
-steps-requires c κs =
-    let found = c .before .before in
-    let start = found .before .before .before in
-    let range = all-in-range (start .args .samples .now) (start .args .elements .now) (found .before .before .if1 .left) (found .before .if2 .left) _
-    (found .first-outside .ensures) (omega arith) in
-    room-columns range (c .columns .ensures)
+columns-requires : tie.Need-columns-requires
+columns-requires c κs =
+    let found = c .before in
+    let start = found .before .before .before in (
+      found .before .before .if1 .left,
+      all-in-range (start .args .samples .now) (start .args .elements .now) (found .before .before .if1 .left) (found .before .if2 .left) _
+          (found .first-outside .ensures) (omega arith),
+    )
 
-transposed-requires : tie.Need-transposed-requires
-transposed-requires c κs = search needs
-
-steps-requires-2 : tie.Need-steps-requires-2
-steps-requires-2 c κs =
-    let found = c .before .before .before .before in
+rows-requires : tie.Need-rows-requires
+rows-requires c κs =
+    let found = c .before .before .before in
     let start = found .before .before .before in
     let x = start .args .samples .now in
     let range = all-in-range x (start .args .elements .now) (found .before .before .if1 .left) (found .before .if2 .left) _
     (found .first-outside .ensures) (omega arith) in
-    room-rows range (turned x (c .before .before .columns .ensures) (c .before .steps .ensures) (c .transposed .ensures))
-
-store-requires : tie.Need-store-requires
-store-requires c κs = search needs
+    (room-rows range (c .before .columns .ensures), found .before .if2 .left)
 
 same-length : tie.Need-same-length
 same-length c = search needs
@@ -53,17 +45,13 @@ same-length c = search needs
 returns-4 : tie.Need-returns-4
 returns-4 c =
     let made = c .before .before .before in
-    let found = made .before .before .before .before .before in
+    let found = made .before .before in
     let start = found .before .before .before in
     let x = start .args .samples .now in
     let (answer, left) = no-fault x (start .args .elements .now) (found .before .before .if1 .left) (found .before .if2 .left) _
     (found .first-outside .ensures) (omega arith) in
-    let elements = stored-elements x (made .before .before .before .columns .ensures) (made .before .before .steps .ensures) (made .before .transposed .ensures)
-    (made .steps2 .ensures) in
-    (answer, c .before .store .ensures ∙ elements ∙ left)
+    (answer, c .before .rows .ensures ∙ stored-elements x (made .columns .ensures) ∙ left)
 
 pub forward-spec : {M : Type 1} → statement M
 forward-spec =
-    tie.close
-    (tie.spec returns returns-2 first-outside-requires returns-3 columns-requires steps-requires transposed-requires steps-requires-2 store-requires
-    same-length returns-4)
+    tie.close (tie.spec returns returns-2 first-outside-requires returns-3 columns-requires rows-requires same-length returns-4)

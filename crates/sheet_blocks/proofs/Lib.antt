@@ -1,0 +1,4 @@
+-- The laws of a sheet's blocks.
+pub mod Samples
+pub mod Output
+pub mod Loop

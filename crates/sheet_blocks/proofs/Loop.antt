@@ -1,0 +1,52 @@
+-- The loop over the blocks of a sheet.
+-- Assumes nothing.
+use mathlib.Core.Path.{_≡_, refl, _∙_}
+use mathlib.Core.List.{List}
+use Prim.Native.Nat.{ℕ, _+_, _-_, _≤_, _<_, zero-le}
+use native.Mathlib.Nat.{not-suc-le-zero}
+use native.Mathlib.Omega.{arith}
+use lib.IntN.{ℤ}
+use lib.ListN.{length}
+use Rattle.dct.specs.Limits.{components-size}
+use Rattle.transform.specs.Forward.{elements-of}
+use Rattle.sheet_checks.specs.Check.{blocks}
+use Rattle.sheet_blocks.specs.Preconditions.{Advanced, Checked}
+use Rattle.sheet_blocks.specs.Blocks.{block}
+
+-- k blocks are done: the scratch has the elements of the last of them, and the output, which was `output₀`, their words
+pub record Reached (words : List ℕ) (b : ℕ) (output₀ : List ℕ) (k : ℕ) (scratch : List ℤ) (output : List ℕ) : Type 0 where
+  pub done : k ≤ blocks words
+  pub scratch-kept : length scratch ≡ components-size
+  pub output-kept : length output ≡ length output₀
+  pub last-block : 0 < k → scratch ≡ elements-of (block words (k - 1))
+  pub so-far : Advanced b words 0 k output₀ output
+
+module _ {words : List ℕ} {b : ℕ} {output₀ : List ℕ} where
+  pub reached-none : {scratch : List ℤ} → length scratch ≡ components-size → Reached words b output₀ 0 scratch output₀
+  reached-none e = record { done = zero-le; scratch-kept = e; output-kept = refl; last-block = λ h. absurd (not-suc-le-zero h); so-far = record { over-any = λ l was. was } }
+
+  pub reached-more : {k : ℕ} {scratch made : List ℤ} {output left : List ℕ} → Reached words b output₀ k scratch output → k < blocks words
+      → length made ≡ length scratch → length left ≡ length output → made ≡ elements-of (block words k)
+      → Advanced b words k (k + 1) output left → Reached words b output₀ (k + 1) made left
+  reached-more {k} R h s o e A =
+      let same : k + 1 - 1 ≡ k = omega arith in
+      record {
+        done = omega arith;
+        scratch-kept = s ∙ R .scratch-kept;
+        output-kept = o ∙ R .output-kept;
+        last-block = λ p. rw same e;
+        so-far = record { over-any = λ l was. A .over-any l (R .so-far .over-any l was) };
+      }
+
+  -- what the next block asks
+  pub checked-on : {s : ℕ} {k : ℕ} {scratch : List ℤ} {output : List ℕ} → Checked words b s (length output₀) → Reached words b output₀ k scratch output
+      → Checked words b (length scratch) (length output)
+  checked-on C R =
+      record {
+        at-width = C .at-width;
+        words-length = C .words-length;
+        some-block = C .some-block;
+        samples-in-range = C .samples-in-range;
+        scratch-size = R .scratch-kept;
+        output-size = rw (R .output-kept) (C .output-size);
+      }

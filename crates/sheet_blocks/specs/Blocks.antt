@@ -1,0 +1,36 @@
+-- The blocks of a sheet, and the words of the coefficient sheet (01, "Sheets").
+use mathlib.Core.Bool.{cond}
+use mathlib.Core.List.{List}
+use Prim.Native.Nat.{ℕ, suc, _+_, _-_, _*_, _/_, _%_}
+use lib.Dec.{eqb}
+use lib.IntN.{ℤ, pos}
+use lib.ListN.{length, getD}
+use Rattle.integers.specs.Table.{table}
+use Rattle.dct.specs.Limits.{places}
+use Rattle.transform.specs.Forward.{elements-of}
+use Rattle.rounding.specs.Rounding.{coefficients-of}
+use Rattle.words.specs.Word.{coefficient-head-kind, coefficient-kind, payload, payload-of, value, word}
+use Rattle.sheet_checks.specs.Check.{word-at}
+
+-- the samples of block k: "64 words each, row by row", after the head
+unfoldable pub block : List ℕ → ℕ → List ℤ
+block words k = table places (λ i. value (payload (word-at words (1 + places * k + i))))
+
+-- "the rounding at b of that block's exact elements"
+unfoldable pub block-coefficients : ℕ → List ℕ → ℕ → List ℤ
+block-coefficients b words k = coefficients-of b (elements-of (block words k))
+
+-- the word of coefficient i
+abbrev pub coefficient-word : List ℤ → ℕ → ℕ
+coefficient-word coefficients i = word coefficient-kind (payload-of (getD coefficients i (pos 0)))
+
+-- word i of the output: "a head of kind 4 with the same sizes, then for each block 64 words of kind 3, [..], then the same end word"
+unfoldable pub output-word : ℕ → List ℕ → ℕ → ℕ
+output-word b words i =
+    cond (eqb i 0) (word coefficient-head-kind (payload (word-at words 0)))
+    (cond (eqb (suc i) (length words)) (word-at words i)
+    (coefficient-word (block-coefficients b words ((i - 1) / places)) ((i - 1) % places)))
+
+-- the coefficient sheet of a sample sheet, which has as many words
+unfoldable pub coefficient-sheet : ℕ → List ℕ → List ℕ
+coefficient-sheet b words = table (length words) (output-word b words)

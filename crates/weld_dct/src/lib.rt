@@ -1,0 +1,74 @@
+// The four jobs for programs in other languages: include/weld_dct.h declares them for C, rust/ wraps them for Rust. Each is the job of its crate,
+// with 01's number and place of the answer.
+ghost use mathlib.Core.Path.{_≡_};
+ghost use lib.Dec.{T};
+ghost use lib.ListN.{length};
+ghost use Rattle.answers.specs.Answer.{accepted, returned};
+ghost use Rattle.inverse.specs.Back.{back-returned, back-samples};
+ghost use Rattle.rounding.specs.Rounding.{AllNear, round-coefficients, round-returned};
+ghost use Rattle.sheets.specs.Sheet.{sheet-output, sheet-returned, sheet-scratch};
+ghost use Rattle.transform.specs.Forward.{forward-elements, forward-returned};
+ghost use Rattle.weld_dct.specs.Returned.{number-and-place};
+use answers::Answer;
+use answers::number;
+use answers::place;
+
+// What every function returns: 0 for an accepted call, and the number of the refusal otherwise; and the place.
+#[repr(C)]
+pub struct Returned {
+    number: u32,
+    place: usize,
+}
+
+// 01's number and place of an answer.
+fn told(a: Answer) -> Returned
+    ensures { λ r. ⌜ number-and-place r ≡ returned a ⌝ }
+{
+    Returned {
+        number: number(a),
+        place: place(a),
+    }
+}
+
+// The exact elements of a block.
+#[no_mangle]
+pub extern "C" fn weld_dct_forward(samples: &[i32], elements: &mut [i32]) -> Returned
+    ensures { λ r. ⌜ number-and-place r ≡ forward-returned (now (samples .entry)) (now (elements .entry)) ⌝ }
+    ensures { λ r. ⌜ now (elements .exit) ≡ forward-elements (now (samples .entry)) (now (elements .entry)) ⌝ }
+{
+    told(transform::forward(samples, elements))
+}
+
+// The block that has these elements.
+#[no_mangle]
+pub extern "C" fn weld_dct_back(elements: &[i32], samples: &mut [i32]) -> Returned
+    ensures { λ r. ⌜ number-and-place r ≡ back-returned (now (elements .entry)) (now (samples .entry)) ⌝ }
+    ensures { λ r. ⌜ now (samples .exit) ≡ back-samples (now (elements .entry)) (now (samples .entry)) ⌝ }
+{
+    told(inverse::back(elements, samples))
+}
+
+// The coefficients of 64 elements at the width b.
+#[no_mangle]
+pub extern "C" fn weld_dct_round(elements: &[i32], b: u32, coefficients: &mut [i32]) -> Returned
+    ensures { λ r. ⌜ number-and-place r ≡ round-returned (now (elements .entry)) b (now (coefficients .entry)) ⌝ }
+    ensures { λ r. ⌜ now (coefficients .exit) ≡ round-coefficients (now (elements .entry)) b (now (coefficients .entry)) ⌝ }
+    ensures { λ r. ⌜ (T (accepted (number-and-place r)) → AllNear (now (elements .entry)) b (now (coefficients .exit))) ⌝ }
+{
+    told(rounding::round(elements, b, coefficients))
+}
+
+// The coefficient sheet of a sample sheet at the width b.
+#[no_mangle]
+pub extern "C" fn weld_dct_sheet(
+    words: &[u32],
+    b: u32,
+    scratch: &mut [i32],
+    output: &mut [u32],
+) -> Returned
+    ensures { λ r. ⌜ number-and-place r ≡ sheet-returned (now (words .entry)) b (length (now (scratch .entry))) (length (now (output .entry))) ⌝ }
+    ensures { λ r. ⌜ now (scratch .exit) ≡ sheet-scratch (now (words .entry)) b (now (scratch .entry)) (now (output .entry)) ⌝ }
+    ensures { λ r. ⌜ now (output .exit) ≡ sheet-output (now (words .entry)) b (now (scratch .entry)) (now (output .entry)) ⌝ }
+{
+    told(sheets::sheet(words, b, scratch, output))
+}

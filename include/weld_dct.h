@@ -1,0 +1,104 @@
+/* The exact 8 by 8 cosine transform for weld radiographs, for C and C++.
+ *
+ * Every function takes any numbers and buffers of any length. It either does the whole of its work and answers 0, or it answers the number
+ * of one refusal with its place, and then every buffer is as it was. That each function does what is said here is proved of its source;
+ * docs/CLAIMS.md says where, and docs/TRUST.md what remains to be believed.
+ *
+ * A buffer is a pointer and the count of its numbers. What the caller must see to, because no function can look at it: a pointer is valid
+ * for its count of numbers, aligned, and not null, even where the count is 0; a buffer that is written overlaps no other buffer of the call.
+ * The functions keep no state and may be called from any number of threads at once, each with buffers of its own. They do not allocate,
+ * and none takes more than 12 KB of stack (measured).
+ *
+ * Link libweld_dct.a. It needs memcpy and memset, and nothing else.
+ */
+#ifndef WELD_DCT_H
+#define WELD_DCT_H
+
+#include <stddef.h>
+#include <stdint.h>
+
+#ifdef __cplusplus
+extern "C" {
+#endif
+
+/* A block has 64 samples and 64 coefficients, row by row, and 64 elements of eight components each, in 512 numbers. */
+#define WELD_DCT_PLACES 64
+#define WELD_DCT_COMPONENTS 512
+
+/* The lowest and the highest sample. */
+#define WELD_DCT_LOWEST_SAMPLE (-2048)
+#define WELD_DCT_HIGHEST_SAMPLE 2047
+
+/* The magnitudes of an element's eight components may sum to at most this. */
+#define WELD_DCT_MAGNITUDES_LIMIT 262144
+
+/* The widths b at which coefficients are rounded, as an initialiser. */
+#define WELD_DCT_WIDTHS {11, 20, 26}
+
+/* The most blocks that a sheet has, and the words of a sheet of so many blocks: a head, 64 for each block, and an end word. */
+#define WELD_DCT_BLOCKS_LIMIT 128
+#define WELD_DCT_SHEET_WORDS(blocks) (2 + WELD_DCT_PLACES * (size_t)(blocks))
+
+/* What an answer's number says, and what its place is. */
+enum {
+    WELD_DCT_ACCEPTED = 0,           /* the work is done; place: of a sheet the words written, otherwise 0 */
+    WELD_DCT_REFUSED_LENGTHS = 1,    /* samples or coefficients are not 64, elements or scratch not 512, or a sheet's output is shorter than
+                                        the sheet; place 0 */
+    WELD_DCT_REFUSED_SAMPLE = 2,     /* a sample is out of range; place: its index, in a sheet the word's */
+    WELD_DCT_REFUSED_WIDTH = 3,      /* b is not 11, 20 or 26; place 0 */
+    WELD_DCT_REFUSED_MAGNITUDES = 4, /* an element's magnitudes sum above the limit; place: its number 8u+v */
+    WELD_DCT_REFUSED_NO_BLOCK = 5,   /* no block in range has these elements; place 0 */
+    WELD_DCT_REFUSED_HEAD = 6,       /* a sheet has no words, or its first is not of kind 1, or its sizes are not allowed; place 0 */
+    WELD_DCT_REFUSED_WORDS = 7,      /* a sheet has a wrong count of words; place: the count. Or a word is of another kind than its place
+                                        needs; place: its index, which is below the count */
+    WELD_DCT_REFUSED_END = 8         /* the end word does not hold the number of blocks; place: its index */
+};
+
+/* Where more than one sample, element or word has a fault, the place is the lowest. */
+struct weld_dct_answer {
+    uint32_t number;
+    size_t place;
+};
+
+/* Forward: the 64 exact elements of a block.
+ *
+ * samples: 64 numbers, the sample of row i, column j at index 8i+j. elements: exactly 512. The element of the frequencies u down and v
+ * across starts at index 8(8u+v): eight numbers u_0 to u_7, which mean u_0 + u_1 c_1 + ... + u_7 c_7, c_k being 2 cos(k pi/16). That is
+ * exactly sixteen times the DCT value that ITU-T T.81, A.3.3, has for these frequencies.
+ * Refuses, in this order: WELD_DCT_REFUSED_LENGTHS, n not 64 or m not 512; WELD_DCT_REFUSED_SAMPLE. */
+struct weld_dct_answer weld_dct_forward(const int32_t *samples, size_t n, int32_t *elements, size_t m);
+
+/* Back: the block that has 64 given elements.
+ *
+ * elements: 512 numbers, laid out as forward writes them. samples: exactly 64. With these lengths, accepted exactly if there is a
+ * block in range of which forward makes these 512 numbers; there is then only one, and that is written.
+ * Refuses, in this order: WELD_DCT_REFUSED_LENGTHS, n not 512 or m not 64; WELD_DCT_REFUSED_MAGNITUDES; WELD_DCT_REFUSED_NO_BLOCK. */
+struct weld_dct_answer weld_dct_back(const int32_t *elements, size_t n, int32_t *samples, size_t m);
+
+/* Round: 64 coefficients in eighths, from 64 exact elements, at the width b.
+ *
+ * elements: 512 numbers, laid out as forward writes them, a block's or others within the limit. coefficients: exactly 64, the one
+ * of (u,v) at index 8u+v, which stands for eight times the DCT value. It is (N + 2^b) / 2^(b+1), rounded down, where N is
+ * 2^b u_0 + m_1 u_1 + ... + m_7 u_7 and m_k is the whole number nearest to 2^b c_k. It is never further than 1/2 + 65,536/2^b from half
+ * of the element's exact value.
+ * Refuses, in this order: WELD_DCT_REFUSED_LENGTHS, n not 512 or m not 64; WELD_DCT_REFUSED_WIDTH; WELD_DCT_REFUSED_MAGNITUDES. */
+struct weld_dct_answer weld_dct_round(const int32_t *elements, size_t n, uint32_t b, int32_t *coefficients, size_t m);
+
+/* Sheet: a sheet of sample words to a sheet of coefficient words, at the width b.
+ *
+ * A word has its kind in its top four bits and a payload in the other 28. words: a head of kind 1, blocks across in bits 27 to 14 and
+ * blocks down in bits 13 to 0; for each block, left to right and then down, 64 words of kind 2, each a sample in 28-bit two's complement;
+ * an end word of kind 15, its payload the number of blocks. Both sizes are at least 1 and their product is at most 128.
+ * output: room for n words or more. Written are n: a head of kind 4 with the same sizes, for each block 64 words of kind 3, each a
+ * coefficient in 28-bit two's complement, and the same end word. Words beyond them stay as they were. scratch: 512 numbers; afterwards
+ * the elements of the last block. An accepted call answers 0 and n.
+ * Refuses, in this order: WELD_DCT_REFUSED_WIDTH; WELD_DCT_REFUSED_HEAD; WELD_DCT_REFUSED_WORDS for the count; WELD_DCT_REFUSED_LENGTHS,
+ * k not 512 or m below n; then the first faulty word: WELD_DCT_REFUSED_WORDS for its kind, and otherwise WELD_DCT_REFUSED_SAMPLE or
+ * WELD_DCT_REFUSED_END for what it holds. */
+struct weld_dct_answer weld_dct_sheet(const uint32_t *words, size_t n, uint32_t b, int32_t *scratch, size_t k, uint32_t *output, size_t m);
+
+#ifdef __cplusplus
+}
+#endif
+
+#endif

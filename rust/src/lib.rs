@@ -1,0 +1,312 @@
+//! The exact 8 by 8 cosine transform for weld radiographs.
+//!
+//! Each function is safe and takes any numbers and slices of any length. It either does the whole of its work and
+//! returns `Ok`, or it returns the first [`Refusal`] in the order that it names, and then every slice is as it was.
+//! None of them panics, allocates or keeps state. The library behind them is proved to do what is said here; this crate
+//! passes slices to it and reads its answers. docs/TRUST.md says what is not proved.
+//!
+//! ```
+//! let mut elements = [0; weld_dct::COMPONENTS];
+//! weld_dct::forward(&[1; weld_dct::PLACES], &mut elements)?;
+//! let mut coefficients = [0; weld_dct::PLACES];
+//! weld_dct::round(&elements, 26, &mut coefficients)?;
+//! assert_eq!((elements[0], coefficients[0]), (128, 64));
+//! # Ok::<(), weld_dct::Refusal>(())
+//! ```
+#![deny(missing_docs)]
+
+use std::{error, fmt};
+
+/// The places of a block, row by row: it has as many samples, elements and coefficients.
+pub const PLACES: usize = 64;
+
+/// The components of a block's elements, eight for each.
+pub const COMPONENTS: usize = 512;
+
+/// The lowest sample.
+pub const LOWEST_SAMPLE: i32 = -2048;
+
+/// The highest sample.
+pub const HIGHEST_SAMPLE: i32 = 2047;
+
+/// What the magnitudes of an element's eight components may sum to.
+pub const MAGNITUDES_LIMIT: u32 = 262_144;
+
+/// The blocks that a sheet may have.
+pub const BLOCKS_LIMIT: usize = 128;
+
+/// The widths b at which coefficients are rounded.
+pub const WIDTHS: [u32; 3] = [11, 20, 26];
+
+/// The words of a sheet of so many blocks: a head, 64 for each block, and an end word. Where that is no `usize`, which
+/// no sheet comes near, it is the largest one.
+///
+/// ```
+/// assert_eq!(weld_dct::sheet_words(12), 770);
+/// ```
+pub const fn sheet_words(blocks: usize) -> usize {
+    PLACES.saturating_mul(blocks).saturating_add(2)
+}
+
+/// Why a call is refused.
+#[derive(Debug, Clone, Copy, PartialEq, Eq, Hash)]
+pub enum Refusal {
+    /// A slice has another length than the function asks for.
+    Lengths,
+    /// The sample at this index, in a sheet the word at this index, is out of range. It is the first.
+    Sample(usize),
+    /// b is not one of [`WIDTHS`].
+    Width,
+    /// The magnitudes of the element of this number, 8u+v, sum above [`MAGNITUDES_LIMIT`]. It is the first.
+    Magnitudes(usize),
+    /// No block in range has these elements.
+    NoBlock,
+    /// A sheet has no words, or does not begin with a head whose sizes are allowed.
+    Head,
+    /// A sheet has this many words, and not as many as its sizes ask for. Or the word at this index, the first that has
+    /// a fault and so below that count, is of another kind than its place needs.
+    Words(usize),
+    /// The end word, at this index, does not hold the number of blocks.
+    End(usize),
+}
+
+/// The numbers of the answers.
+mod numbers {
+    pub const ACCEPTED: u32 = 0;
+    pub const LENGTHS: u32 = 1;
+    pub const SAMPLE: u32 = 2;
+    pub const WIDTH: u32 = 3;
+    pub const MAGNITUDES: u32 = 4;
+    pub const NO_BLOCK: u32 = 5;
+    pub const HEAD: u32 = 6;
+    pub const WORDS: u32 = 7;
+    pub const END: u32 = 8;
+}
+
+impl Refusal {
+    /// The number of the refusal, 1 to 8, as the C interface has it.
+    pub const fn number(&self) -> u32 {
+        match self {
+            Refusal::Lengths => numbers::LENGTHS,
+            Refusal::Sample(_) => numbers::SAMPLE,
+            Refusal::Width => numbers::WIDTH,
+            Refusal::Magnitudes(_) => numbers::MAGNITUDES,
+            Refusal::NoBlock => numbers::NO_BLOCK,
+            Refusal::Head => numbers::HEAD,
+            Refusal::Words(_) => numbers::WORDS,
+            Refusal::End(_) => numbers::END,
+        }
+    }
+
+    /// The place that the refusal names, 0 where it names none.
+    pub const fn place(&self) -> usize {
+        match *self {
+            Refusal::Lengths | Refusal::Width | Refusal::NoBlock | Refusal::Head => 0,
+            Refusal::Sample(place) | Refusal::Magnitudes(place) => place,
+            Refusal::Words(place) | Refusal::End(place) => place,
+        }
+    }
+}
+
+/// The line that the program `transform_sheet` prints, without its newline.
+///
+/// ```
+/// assert_eq!(weld_dct::Refusal::Sample(9).to_string(), "refused 2 at 9");
+/// ```
+impl fmt::Display for Refusal {
+    fn fmt(&self, f: &mut fmt::Formatter<'_>) -> fmt::Result {
+        write!(f, "refused {} at {}", self.number(), self.place())
+    }
+}
+
+impl error::Error for Refusal {}
+
+/// What a function of the C interface returns.
+#[repr(C)]
+struct Answer {
+    number: u32,
+    place: usize,
+}
+
+extern "C" {
+    fn weld_dct_forward(samples: *const i32, n: usize, elements: *mut i32, m: usize) -> Answer;
+    fn weld_dct_back(elements: *const i32, n: usize, samples: *mut i32, m: usize) -> Answer;
+    fn weld_dct_round(
+        elements: *const i32,
+        n: usize,
+        b: u32,
+        coefficients: *mut i32,
+        m: usize,
+    ) -> Answer;
+    fn weld_dct_sheet(
+        words: *const u32,
+        n: usize,
+        b: u32,
+        scratch: *mut i32,
+        k: usize,
+        output: *mut u32,
+        m: usize,
+    ) -> Answer;
+}
+
+impl Answer {
+    /// The place of an accepted call, which is the words written of a sheet and 0 otherwise; or the refusal.
+    fn outcome(self) -> Result<usize, Refusal> {
+        match self.number {
+            numbers::ACCEPTED => Ok(self.place),
+            numbers::LENGTHS => Err(Refusal::Lengths),
+            numbers::SAMPLE => Err(Refusal::Sample(self.place)),
+            numbers::WIDTH => Err(Refusal::Width),
+            numbers::MAGNITUDES => Err(Refusal::Magnitudes(self.place)),
+            numbers::NO_BLOCK => Err(Refusal::NoBlock),
+            numbers::HEAD => Err(Refusal::Head),
+            numbers::WORDS => Err(Refusal::Words(self.place)),
+            // No number but 8 is left: the library has no other.
+            _ => Err(Refusal::End(self.place)),
+        }
+    }
+}
+
+/// Makes the 64 exact elements of a block.
+///
+/// `samples` has the sample of row i, column j at index 8i+j. The element of the frequencies u down and v across is
+/// written from index 8·(8u+v) of `elements` on: eight numbers u_0 to u_7, which mean u_0 + u_1·c_1 + ... + u_7·c_7,
+/// c_k being 2·cos(kπ/16). That is exactly sixteen times the DCT value that ITU-T T.81, A.3.3, has for these
+/// frequencies.
+///
+/// # Errors
+///
+/// In this order, and `elements` is then as it was:
+/// - [`Refusal::Lengths`]: `samples` has not 64 numbers or `elements` not 512;
+/// - [`Refusal::Sample`]: a sample is not from -2048 to 2047.
+///
+/// ```
+/// use weld_dct::{forward, Refusal, COMPONENTS, PLACES};
+///
+/// let mut elements = [0; COMPONENTS];
+/// let mut samples = [0; PLACES];
+/// samples[0] = 1;
+/// forward(&samples, &mut elements)?;
+/// assert_eq!(elements[8..16], [0, 0, 0, 1, 0, 1, 0, 0]); // c_3 + c_5
+///
+/// samples[9] = 2048;
+/// assert_eq!(forward(&samples, &mut elements), Err(Refusal::Sample(9)));
+/// # Ok::<(), Refusal>(())
+/// ```
+pub fn forward(samples: &[i32], elements: &mut [i32]) -> Result<(), Refusal> {
+    let (n, m) = (samples.len(), elements.len());
+    // SAFETY: the pointers are those of slices, with their lengths, and a slice borrowed mutably overlaps no other.
+    let answer = unsafe { weld_dct_forward(samples.as_ptr(), n, elements.as_mut_ptr(), m) };
+    answer.outcome().map(|_| ())
+}
+
+/// Makes the block that has 64 given elements.
+///
+/// `elements` is laid out as [`forward`] writes it. The call is accepted exactly if there is a block in range of which
+/// `forward` makes these 512 numbers. There is then only one, and that is written to `samples`.
+///
+/// # Errors
+///
+/// In this order, and `samples` is then as it was:
+/// - [`Refusal::Lengths`]: `elements` has not 512 numbers or `samples` not 64;
+/// - [`Refusal::Magnitudes`]: the magnitudes of an element's eight components sum above 262,144;
+/// - [`Refusal::NoBlock`]: no block in range has these elements.
+///
+/// ```
+/// use weld_dct::{back, Refusal, COMPONENTS, PLACES};
+///
+/// let mut samples = [0; PLACES];
+/// let mut elements = [0; COMPONENTS];
+/// elements[0] = 128;
+/// back(&elements, &mut samples)?;
+/// assert_eq!(samples, [1; PLACES]);
+///
+/// elements[0] = 1;
+/// assert_eq!(back(&elements, &mut samples), Err(Refusal::NoBlock));
+/// # Ok::<(), Refusal>(())
+/// ```
+pub fn back(elements: &[i32], samples: &mut [i32]) -> Result<(), Refusal> {
+    let (n, m) = (elements.len(), samples.len());
+    // SAFETY: the pointers are those of slices, with their lengths, and a slice borrowed mutably overlaps no other.
+    let answer = unsafe { weld_dct_back(elements.as_ptr(), n, samples.as_mut_ptr(), m) };
+    answer.outcome().map(|_| ())
+}
+
+/// Makes 64 coefficients in eighths of 64 exact elements, at the width b.
+///
+/// `elements` is laid out as [`forward`] writes it, a block's or others within the limit. The coefficient of (u,v),
+/// which stands for eight times the DCT value, is written at index 8u+v of `coefficients`. It is (N + 2^b) / 2^(b+1),
+/// rounded down, where N is 2^b·u_0 + m_1·u_1 + ... + m_7·u_7 and m_k is the whole number nearest to 2^b·c_k. It is never
+/// further than 1/2 + 65,536/2^b from half of the element's exact value.
+///
+/// # Errors
+///
+/// In this order, and `coefficients` is then as it was:
+/// - [`Refusal::Lengths`]: `elements` has not 512 numbers or `coefficients` not 64;
+/// - [`Refusal::Width`]: b is not 11, 20 or 26;
+/// - [`Refusal::Magnitudes`]: the magnitudes of an element's eight components sum above 262,144.
+///
+/// ```
+/// use weld_dct::{round, Refusal, COMPONENTS, PLACES};
+///
+/// let mut coefficients = [0; PLACES];
+/// let mut elements = [0; COMPONENTS];
+/// elements[2] = 256;
+/// round(&elements, 11, &mut coefficients)?;
+/// assert_eq!(coefficients[0], 237);
+/// assert_eq!(round(&elements, 12, &mut coefficients), Err(Refusal::Width));
+/// # Ok::<(), Refusal>(())
+/// ```
+pub fn round(elements: &[i32], b: u32, coefficients: &mut [i32]) -> Result<(), Refusal> {
+    let (n, m) = (elements.len(), coefficients.len());
+    // SAFETY: the pointers are those of slices, with their lengths, and a slice borrowed mutably overlaps no other.
+    let answer = unsafe { weld_dct_round(elements.as_ptr(), n, b, coefficients.as_mut_ptr(), m) };
+    answer.outcome().map(|_| ())
+}
+
+/// Makes a sheet of coefficient words of a sheet of sample words, at the width b, and returns the words written.
+///
+/// A word has its kind in its top four bits and a payload in the other 28. `words` is a head of kind 1, blocks across
+/// in bits 27 to 14 and blocks down in bits 13 to 0; for each block, left to right and then down, 64 words of kind 2,
+/// each a sample in 28-bit two's complement; and an end word of kind 15, its payload the number of blocks. Both sizes
+/// are at least 1 and their product is at most 128.
+///
+/// As many words are written to `output`: a head of kind 4 with the same sizes, for each block 64 words of kind 3, each
+/// a coefficient in 28-bit two's complement, and the same end word. Words beyond them stay as they were. `scratch` has
+/// the elements of the last block afterwards.
+///
+/// # Errors
+///
+/// In this order, and `scratch` and `output` are then as they were:
+/// - [`Refusal::Width`]: b is not 11, 20 or 26;
+/// - [`Refusal::Head`]: there are no words, the first is not of kind 1, or its sizes are not allowed;
+/// - [`Refusal::Words`] with the count: there are not [`sheet_words`] of the number of blocks;
+/// - [`Refusal::Lengths`]: `scratch` has not 512 numbers, or `output` is shorter than `words`;
+/// - then the first faulty word: [`Refusal::Words`] with its index for its kind, and [`Refusal::Sample`] or
+///   [`Refusal::End`] for what it holds.
+///
+/// ```
+/// use weld_dct::{sheet, sheet_words, Refusal, COMPONENTS};
+///
+/// let mut words = [0x2000_0001; sheet_words(1)];
+/// (words[0], words[65]) = (0x1000_4001, 0xF000_0001);
+/// let mut scratch = [0; COMPONENTS];
+/// let mut output = [0; sheet_words(1)];
+/// assert_eq!(sheet(&words, 26, &mut scratch, &mut output), Ok(66));
+/// assert_eq!(output[..3], [0x4000_4001, 0x3000_0040, 0x3000_0000]);
+///
+/// words[65] = 0xF000_0002;
+/// assert_eq!(sheet(&words, 26, &mut scratch, &mut output), Err(Refusal::End(65)));
+/// ```
+pub fn sheet(
+    words: &[u32],
+    b: u32,
+    scratch: &mut [i32],
+    output: &mut [u32],
+) -> Result<usize, Refusal> {
+    let (n, k, m) = (words.len(), scratch.len(), output.len());
+    let (scratch, output) = (scratch.as_mut_ptr(), output.as_mut_ptr());
+    // SAFETY: the pointers are those of slices, with their lengths, and a slice borrowed mutably overlaps no other.
+    let answer = unsafe { weld_dct_sheet(words.as_ptr(), n, b, scratch, k, output, m) };
+    answer.outcome()
+}

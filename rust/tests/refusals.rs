@@ -1,0 +1,197 @@
+//! Every refusal of the library, provoked through each function that has it, comes as its case of `Refusal`, with its
+//! number and its place, and leaves every slice as it was.
+use weld_dct::*;
+
+const SAMPLE_HEAD: u32 = 0x1000_4001;
+const SAMPLE: u32 = 0x2000_0000;
+const END: u32 = 0xF000_0001;
+
+/// A sheet of one block.
+fn one_block() -> Vec<u32> {
+    let mut words = vec![SAMPLE; sheet_words(1)];
+    words[0] = SAMPLE_HEAD;
+    words[65] = END;
+    words
+}
+
+/// The refusal is the expected one, and has this number and place.
+fn refused<T: std::fmt::Debug + PartialEq>(
+    came: Result<T, Refusal>,
+    expected: Refusal,
+    number: u32,
+    place: usize,
+) {
+    assert_eq!(came, Err(expected));
+    assert_eq!((expected.number(), expected.place()), (number, place));
+    assert_eq!(expected.to_string(), format!("refused {number} at {place}"));
+}
+
+/// Forward refuses so, and leaves a buffer of this length as it was.
+fn forward_refuses(samples: &[i32], length: usize, expected: Refusal, number: u32, place: usize) {
+    let mut elements = vec![7; length];
+    refused(forward(samples, &mut elements), expected, number, place);
+    assert_eq!(elements, vec![7; length]);
+}
+
+/// Back refuses so, and leaves a buffer of this length as it was.
+fn back_refuses(elements: &[i32], length: usize, expected: Refusal, number: u32, place: usize) {
+    let mut samples = vec![7; length];
+    refused(back(elements, &mut samples), expected, number, place);
+    assert_eq!(samples, vec![7; length]);
+}
+
+/// Round refuses so, and leaves a buffer of this length as it was.
+fn round_refuses(
+    elements: &[i32],
+    b: u32,
+    length: usize,
+    expected: Refusal,
+    number: u32,
+    place: usize,
+) {
+    let mut coefficients = vec![7; length];
+    refused(
+        round(elements, b, &mut coefficients),
+        expected,
+        number,
+        place,
+    );
+    assert_eq!(coefficients, vec![7; length]);
+}
+
+/// Sheet refuses so at the width b, and leaves buffers of these lengths as they were.
+fn sheet_refuses(
+    words: &[u32],
+    b: u32,
+    lengths: (usize, usize),
+    expected: Refusal,
+    number: u32,
+    place: usize,
+) {
+    let (mut scratch, mut output) = (vec![7; lengths.0], vec![7; lengths.1]);
+    refused(
+        sheet(words, b, &mut scratch, &mut output),
+        expected,
+        number,
+        place,
+    );
+    assert_eq!((scratch, output), (vec![7; lengths.0], vec![7; lengths.1]));
+}
+
+/// Lengths of elements and of samples or coefficients of which one is wrong, or both.
+const WRONG_LENGTHS: [(usize, usize); 7] = [
+    (0, 0),
+    (0, 64),
+    (511, 64),
+    (513, 64),
+    (512, 0),
+    (512, 63),
+    (512, 65),
+];
+
+#[test]
+fn forward_names_lengths_then_the_first_sample() {
+    let mut samples = vec![0; PLACES];
+    (samples[63], samples[5]) = (LOWEST_SAMPLE - 1, HIGHEST_SAMPLE + 1);
+    forward_refuses(&samples, COMPONENTS, Refusal::Sample(5), 2, 5);
+    samples[5] = HIGHEST_SAMPLE;
+    forward_refuses(&samples, COMPONENTS, Refusal::Sample(63), 2, 63);
+    for (m, n) in WRONG_LENGTHS {
+        forward_refuses(&vec![i32::MIN; n], m, Refusal::Lengths, 1, 0);
+    }
+}
+
+#[test]
+fn back_names_lengths_then_magnitudes_then_no_block() {
+    let mut elements = vec![0; COMPONENTS];
+    elements[0] = 1;
+    back_refuses(&elements, PLACES, Refusal::NoBlock, 5, 0);
+    elements[511] = i32::MIN;
+    back_refuses(&elements, PLACES, Refusal::Magnitudes(63), 4, 63);
+    for (n, m) in WRONG_LENGTHS {
+        back_refuses(&vec![i32::MIN; n], m, Refusal::Lengths, 1, 0);
+    }
+}
+
+#[test]
+fn round_names_lengths_then_width_then_magnitudes() {
+    let mut elements = vec![0; COMPONENTS];
+    (elements[16], elements[17]) = (MAGNITUDES_LIMIT as i32, -1);
+    for b in WIDTHS {
+        round_refuses(&elements, b, PLACES, Refusal::Magnitudes(2), 4, 2);
+    }
+    for b in [0, 10, 12, 19, 21, 25, 27, u32::MAX] {
+        round_refuses(&elements, b, PLACES, Refusal::Width, 3, 0);
+    }
+    for (n, m) in WRONG_LENGTHS {
+        round_refuses(&vec![i32::MIN; n], 12, m, Refusal::Lengths, 1, 0);
+    }
+}
+
+#[test]
+fn sheet_names_width_then_head_then_count_then_lengths() {
+    let words = one_block();
+    sheet_refuses(&[], 12, (0, 0), Refusal::Width, 3, 0);
+    sheet_refuses(&[], 26, (0, 0), Refusal::Head, 6, 0);
+    for head in [0x2000_4001, 0x1000_0001, 0x1000_4000, 0x1000_4081] {
+        sheet_refuses(&[head], 26, (0, 0), Refusal::Head, 6, 0);
+    }
+    sheet_refuses(&words[..65], 26, (0, 0), Refusal::Words(65), 7, 65);
+    sheet_refuses(
+        &[words.as_slice(), &[0]].concat(),
+        26,
+        (0, 0),
+        Refusal::Words(67),
+        7,
+        67,
+    );
+    let mut faulty = words;
+    faulty[1] = 0;
+    for lengths in [(511, 66), (513, 66), (0, 66), (512, 65), (512, 0)] {
+        sheet_refuses(&faulty, 26, lengths, Refusal::Lengths, 1, 0);
+    }
+}
+
+#[test]
+fn sheet_names_the_first_faulty_word() {
+    let mut words = one_block();
+    words[65] = END + 1;
+    sheet_refuses(&words, 11, (512, 66), Refusal::End(65), 8, 65);
+    words[65] = SAMPLE;
+    sheet_refuses(&words, 11, (512, 66), Refusal::Words(65), 7, 65);
+    words[64] = SAMPLE | 0x0FFF_F7FF; // -2049
+    sheet_refuses(&words, 11, (512, 66), Refusal::Sample(64), 2, 64);
+    words[40] = 0x3000_0800; // of another kind, and out of range
+    sheet_refuses(&words, 11, (512, 66), Refusal::Words(40), 7, 40);
+}
+
+#[test]
+fn accepted_calls_write_what_they_promise_and_no_more() {
+    let mut samples: Vec<i32> = (0..64).map(|n| n * 61 - 1900).collect();
+    (samples[0], samples[63]) = (LOWEST_SAMPLE, HIGHEST_SAMPLE);
+    let mut words = one_block();
+    for (word, sample) in words[1..].iter_mut().zip(&samples) {
+        *word = SAMPLE | *sample as u32 & 0x0FFF_FFFF;
+    }
+    let (mut elements, mut again) = ([0; COMPONENTS], [0; PLACES]);
+    assert_eq!(forward(&samples, &mut elements), Ok(()));
+    assert_eq!(back(&elements, &mut again), Ok(()));
+    assert_eq!(samples, again);
+    for b in WIDTHS {
+        let (mut coefficients, mut scratch, mut output) = ([0; PLACES], [0; COMPONENTS], [7; 68]);
+        assert_eq!(round(&elements, b, &mut coefficients), Ok(()));
+        assert_eq!(sheet(&words, b, &mut scratch, &mut output), Ok(66));
+        let made = coefficients.map(|y| 0x3000_0000 | y as u32 & 0x0FFF_FFFF);
+        assert_eq!(scratch, elements);
+        assert_eq!(
+            output[..],
+            [&[0x4000_4001], &made[..], &[END, 7, 7]].concat()
+        );
+    }
+}
+
+#[test]
+fn the_words_of_a_sheet_do_not_overflow() {
+    assert_eq!((sheet_words(0), sheet_words(BLOCKS_LIMIT)), (2, 8194));
+    assert_eq!(sheet_words(usize::MAX), usize::MAX);
+}

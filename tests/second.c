@@ -1,0 +1,219 @@
+#include "second.h"
+#include <math.h>
+#include <stdlib.h>
+#include <string.h>
+
+/* One component of a product of two cosines, and how often it stands there. */
+typedef struct { int component, times; } Term;
+
+const uint32_t widths[WIDTHS] = {11, 20, 26};
+static Term terms[BLOCK][BLOCK][2];       /* t(u,i) × t(v,j), at [8u+v][8i+j]: c_(a+b) and c_(a-b) */
+static long double factors[BLOCK][BLOCK]; /* 1/4 · C(u) · C(v) · cos((2i+1)uπ/16) · cos((2j+1)vπ/16), at [8u+v][8i+j] */
+static long double cosines[8];            /* 1, and c_1 to c_7 */
+static int64_t tables[WIDTHS][8];         /* 2^b, and m_1 to m_7 */
+
+/* Cosines. */
+
+/* whether n² < 2^e, of an n from 1 to below 2^127; n² is two halves of 128 bits */
+static int square_below(unsigned __int128 n, int e) {
+    unsigned __int128 high = n >> 64, low = (uint64_t)n;
+    unsigned __int128 middle = 2 * high * low + (low * low >> 64);
+    return e >= 128 ? high * high + (middle >> 64) < (unsigned __int128)1 << (e - 128) : n * n < (unsigned __int128)1 << e;
+}
+
+/* whether the fraction n/2^e lies below c_k: 01's rule, by squares */
+static int below(int k, __int128 n, int e) {
+    static const int next[8] = {0, 2, 4, 6, 0, 6, 4, 2};
+    if (n <= 0) return 1;
+    if (k == 4) return square_below((unsigned __int128)n, 2 * e + 1);
+    __int128 difference = n * n - ((__int128)1 << (2 * e + 1));
+    return k < 4 ? below(next[k], difference, 2 * e) : !below(next[k], -difference, 2 * e);
+}
+
+/* c_m by 01's rules, for any whole m */
+static Term cosine_term(int m) {
+    m = abs(m) % 32;
+    if (m > 16) m = 32 - m;
+    if (m > 8) return (Term){16 - m, m == 16 ? -2 : -1};
+    return m == 8 ? (Term){0, 0} : (Term){m, m == 0 ? 2 : 1};
+}
+
+static long double C(int k) { return k == 0 ? 1 / sqrtl(2) : 1; }
+
+static void make_factors(int u, int v, int i, int j) {
+    int p = 8 * u + v, q = 8 * i + j, a = u == 0 ? 4 : (2 * i + 1) * u, b = v == 0 ? 4 : (2 * j + 1) * v;
+    long double pi = acosl(-1);
+    terms[p][q][0] = cosine_term(a + b);
+    terms[p][q][1] = cosine_term(a - b);
+    factors[p][q] = C(u) * C(v) * cosl((2 * i + 1) * u * pi / 16) * cosl((2 * j + 1) * v * pi / 16) / 4;
+}
+
+int make_second(void) {
+    int follows = 1;
+    for (int n = 0; n < BLOCK * BLOCK; n++) make_factors(n / 512, n / 64 % 8, n / 8 % 8, n % 8);
+    for (int k = 0; k < 8; k++) cosines[k] = k == 0 ? 1 : 2 * cosl(k * acosl(-1) / 16);
+    for (int w = 0; w < WIDTHS; w++)
+        for (int k = 0; k < 8; k++) {
+            int b = (int)widths[w];
+            int64_t m = tables[w][k] = llroundl(ldexpl(cosines[k], b));
+            if (k > 0) follows = follows && below(k, 2 * m - 1, b + 1) && !below(k, 2 * m + 1, b + 1);
+        }
+    return follows;
+}
+
+/* Elements. */
+
+long double T81_factor(int p, int q) { return factors[p][q]; }
+
+long double T81(const int32_t *samples, int p) {
+    long double sum = 0;
+    for (int q = 0; q < BLOCK; q++) sum += samples[q] * factors[p][q];
+    return sum;
+}
+
+long double element_value(const int32_t *u) {
+    long double sum = 0;
+    for (int k = 0; k < 8; k++) sum += u[k] * cosines[k];
+    return sum;
+}
+
+/* the exact double sum at each place, of samples in range */
+static void make_elements(const int32_t *samples, int32_t *elements) {
+    memset(elements, 0, SET * sizeof elements[0]);
+    for (int p = 0; p < BLOCK; p++)
+        for (int q = 0; q < BLOCK; q++)
+            for (int n = 0; n < 2; n++) elements[8 * p + terms[p][q][n].component] += samples[q] * terms[p][q][n].times;
+}
+
+static int in_range(int32_t sample) { return sample >= LOWEST && sample <= HIGHEST; }
+
+/* the lowest number of an element whose magnitudes sum above the limit, or 64 */
+static size_t first_above(const int32_t *elements) {
+    size_t p = 0;
+    for (; p < BLOCK; p++) {
+        int64_t magnitudes = 0;
+        for (size_t k = 0; k < 8; k++) magnitudes += llabs((long long)elements[8 * p + k]);
+        if (magnitudes > MOST_MAGNITUDES) break;
+    }
+    return p;
+}
+
+/* Whether a block in range has these elements, and which. No other block can: T.81's inverse formula gives the samples from the values. */
+static int find_block(const int32_t *elements, int32_t *samples) {
+    long double sums[BLOCK] = {0};
+    int32_t again[SET];
+    for (int p = 0; p < BLOCK; p++) {
+        long double S = element_value(elements + 8 * p) / 16;
+        for (int q = 0; q < BLOCK; q++) sums[q] += S * factors[p][q];
+    }
+    for (int q = 0; q < BLOCK; q++) {
+        samples[q] = (int32_t)lroundl(sums[q]);
+        if (!in_range(samples[q])) return 0;
+    }
+    make_elements(samples, again);
+    return memcmp(elements, again, sizeof again) == 0;
+}
+
+Answer second_forward(const int32_t *samples, size_t n, int32_t *elements, size_t m) {
+    if (n != BLOCK || m != SET) return (Answer){BAD_LENGTH, 0};
+    for (size_t q = 0; q < BLOCK; q++)
+        if (!in_range(samples[q])) return (Answer){BAD_SAMPLE, q};
+    make_elements(samples, elements);
+    return (Answer){ACCEPTED, 0};
+}
+
+Answer second_back(const int32_t *elements, size_t n, int32_t *samples, size_t m) {
+    int32_t found[BLOCK];
+    if (n != SET || m != BLOCK) return (Answer){BAD_LENGTH, 0};
+    if (first_above(elements) < BLOCK) return (Answer){BAD_MAGNITUDES, first_above(elements)};
+    if (!find_block(elements, found)) return (Answer){NO_BLOCK, 0};
+    memcpy(samples, found, sizeof found);
+    return (Answer){ACCEPTED, 0};
+}
+
+/* Coefficients. */
+
+/* which of the widths b is, or WIDTHS if it is none */
+static int width_index(uint32_t b) {
+    int w = 0;
+    while (w < WIDTHS && widths[w] != b) w++;
+    return w;
+}
+
+int64_t table_number(int k, uint32_t b) { return tables[width_index(b)][k]; }
+
+int64_t table_sum(const int32_t *u, uint32_t b) {
+    int64_t N = 0;
+    for (int k = 0; k < 8; k++) N += table_number(k, b) * u[k];
+    return N;
+}
+
+/* (N + 2^b) / 2^(b+1), rounded down */
+static int32_t coefficient(const int32_t *u, uint32_t b) {
+    int64_t one = (int64_t)2 << b, sum = table_sum(u, b) + one / 2;
+    return (int32_t)(sum / one - (sum % one < 0));
+}
+
+/* Both sides are exact to far less than the 10^-9 that is allowed for long double. */
+int within_distance(int64_t y, long double eighths, uint32_t b) {
+    return fabsl((long double)y - eighths) <= 0.5L + ldexpl(65536, -(int)b) + 1e-9L;
+}
+
+Answer second_round(const int32_t *elements, size_t n, uint32_t b, int32_t *coefficients, size_t m) {
+    if (n != SET || m != BLOCK) return (Answer){BAD_LENGTH, 0};
+    if (width_index(b) == WIDTHS) return (Answer){BAD_WIDTH, 0};
+    if (first_above(elements) < BLOCK) return (Answer){BAD_MAGNITUDES, first_above(elements)};
+    for (int p = 0; p < BLOCK; p++) coefficients[p] = coefficient(elements + 8 * p, b);
+    return (Answer){ACCEPTED, 0};
+}
+
+/* Sheets. */
+
+uint32_t kind(uint32_t w) { return w >> 28; }
+uint32_t payload(uint32_t w) { return w & 0x0FFFFFFF; }
+int32_t payload_value(uint32_t w) { return (int32_t)payload(w) - (payload(w) < 1u << 27 ? 0 : 1 << 28); }
+uint32_t across(uint32_t head) { return payload(head) >> 14; }
+uint32_t down(uint32_t head) { return head & 0x3FFF; }
+uint32_t make_word(uint32_t k, int64_t v) { return k << 28 | payload((uint32_t)v); }
+uint32_t make_head(uint32_t k, uint32_t a, uint32_t d) { return k << 28 | a << 14 | d; }
+size_t sheet_count(uint32_t blocks) { return 2 + (size_t)BLOCK * blocks; }
+
+/* the blocks that a head announces, or 0 if it is none of an allowed sample sheet */
+static uint32_t announced(uint32_t head) {
+    uint32_t blocks = across(head) * down(head);
+    return kind(head) == SAMPLE_HEAD && blocks <= MOST_BLOCKS ? blocks : 0;
+}
+
+/* what is wrong with a word after the head */
+static uint32_t fault(uint32_t w, int is_end, uint32_t blocks) {
+    if (kind(w) != (is_end ? END : SAMPLE)) return BAD_WORDS;
+    if (is_end) return payload(w) != blocks ? BAD_END : ACCEPTED;
+    return in_range(payload_value(w)) ? ACCEPTED : BAD_SAMPLE;
+}
+
+static Answer judge_sheet(const uint32_t *words, size_t n, uint32_t b, size_t k, size_t m) {
+    uint32_t blocks = n == 0 ? 0 : announced(words[0]);
+    if (width_index(b) == WIDTHS) return (Answer){BAD_WIDTH, 0};
+    if (blocks == 0) return (Answer){BAD_HEAD, 0};
+    if (n != sheet_count(blocks)) return (Answer){BAD_WORDS, n};
+    if (k != SET || m < n) return (Answer){BAD_LENGTH, 0};
+    for (size_t i = 1; i < n; i++) {
+        uint32_t number = fault(words[i], i == n - 1, blocks);
+        if (number != ACCEPTED) return (Answer){number, i};
+    }
+    return (Answer){ACCEPTED, n};
+}
+
+Answer second_sheet(const uint32_t *words, size_t n, uint32_t b, int32_t *scratch, size_t k, uint32_t *output, size_t m) {
+    Answer answer = judge_sheet(words, n, b, k, m);
+    if (answer.number != ACCEPTED) return answer;
+    output[0] = make_head(COEFFICIENT_HEAD, across(words[0]), down(words[0]));
+    for (size_t first = 1; first < n - 1; first += BLOCK) {
+        int32_t samples[BLOCK];
+        for (size_t q = 0; q < BLOCK; q++) samples[q] = payload_value(words[first + q]);
+        make_elements(samples, scratch);
+        for (size_t p = 0; p < BLOCK; p++) output[first + p] = make_word(COEFFICIENT, coefficient(scratch + 8 * p, b));
+    }
+    output[n - 1] = words[n - 1];
+    return answer;
+}

@@ -1,0 +1,54 @@
+/* The second program: the four jobs as 01 defines them, made from 01 and from T.81's formula (ITU-T T.81, A.3.3) alone. It shares nothing with the
+ * library. A job takes buffers of any lengths, leaves in them what the call has to leave there, and returns the answer. */
+#ifndef SECOND_H
+#define SECOND_H
+
+#include <stddef.h>
+#include <stdint.h>
+
+/* 01's numbers. */
+enum { BLOCK = 64, SET = 512 };          /* the numbers of a block, and of its 64 elements */
+enum { LOWEST = -2048, HIGHEST = 2047 }; /* samples */
+enum { MOST_MAGNITUDES = 262144, MOST_BLOCKS = 128 };
+enum { SAMPLE_HEAD = 1, SAMPLE = 2, COEFFICIENT = 3, COEFFICIENT_HEAD = 4, END = 15 }; /* kinds of words */
+enum { WIDTHS = 3 };
+extern const uint32_t widths[WIDTHS];
+
+/* 01's causes, by their numbers. */
+enum { ACCEPTED, BAD_LENGTH, BAD_SAMPLE, BAD_WIDTH, BAD_MAGNITUDES, NO_BLOCK, BAD_HEAD, BAD_WORDS, BAD_END, ANSWERS };
+
+typedef struct { uint32_t number; size_t place; } Answer;
+
+/* Makes the tables; comes before all else. False if a table number, which is rounded from the cosine itself, breaks 01's rule of fractions. */
+int make_second(void);
+
+Answer second_forward(const int32_t *samples, size_t n, int32_t *elements, size_t m);
+Answer second_back(const int32_t *elements, size_t n, int32_t *samples, size_t m);
+Answer second_round(const int32_t *elements, size_t n, uint32_t b, int32_t *coefficients, size_t m);
+Answer second_sheet(const uint32_t *words, size_t n, uint32_t b, int32_t *scratch, size_t k, uint32_t *output, size_t m);
+
+/* T.81: its factor of sample q = 8i+j in the DCT value at p = 8u+v, and the DCT value itself. */
+long double T81_factor(int p, int q);
+long double T81(const int32_t *samples, int p);
+
+/* The value of an element of eight components, and N of it at the width b, which is one of the three. */
+long double element_value(const int32_t *u);
+int64_t table_sum(const int32_t *u, uint32_t b);
+int64_t table_number(int k, uint32_t b);
+
+/* Whether y is no further than 01's distance, 1/2 + 65,536/2^b, from the eighths. */
+int within_distance(int64_t y, long double eighths, uint32_t b);
+
+/* Words. */
+uint32_t kind(uint32_t w);
+uint32_t payload(uint32_t w);
+int32_t payload_value(uint32_t w);
+uint32_t across(uint32_t head);
+uint32_t down(uint32_t head);
+uint32_t make_word(uint32_t k, int64_t v);
+uint32_t make_head(uint32_t k, uint32_t a, uint32_t d);
+
+/* The words of a sheet of so many blocks. */
+size_t sheet_count(uint32_t blocks);
+
+#endif

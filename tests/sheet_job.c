@@ -1,0 +1,134 @@
+/* Holds the library's sheet job to the second program, call by call: the answer, and the words, the scratch and the output with the guard numbers
+ * about them. */
+#include "weld_dct.h"
+#include "sheet_cases.h"
+#include <stdio.h>
+#include <string.h>
+
+static int answered[ANSWERS];
+static uint32_t width; /* at which the cases of sheet_cases.h are run */
+
+/* the call with n words, of which the sheet's are the first, a scratch of k numbers and an output of m */
+static Answer check_lengths(const Sheet *sheet, size_t n, uint32_t b, size_t k, size_t m) {
+    static Pair words, scratch, output;
+    fill(&words, "words", sheet->words, sheet->count, n);
+    fill(&scratch, "scratch", NULL, 0, k);
+    fill(&output, "output", NULL, 0, m);
+    Answer wanted = second_sheet((uint32_t *)words.second + GUARD, n, b, scratch.second + GUARD, k, (uint32_t *)output.second + GUARD, m);
+    struct weld_dct_answer answer =
+        weld_dct_sheet((uint32_t *)words.library + GUARD, n, b, scratch.library + GUARD, k, (uint32_t *)output.library + GUARD, m);
+    expect_answer("sheet", wanted, answer.number, answer.place);
+    compare(&words, "sheet");
+    compare(&scratch, "sheet");
+    compare(&output, "sheet");
+    answered[wanted.number]++;
+    return wanted;
+}
+
+/* output as long as the sheet, or longer */
+static Answer check_sheet(const Sheet *sheet) { return check_lengths(sheet, sheet->count, width, SET, sheet->count + (size_t)any(0, 3) * 21); }
+
+/* Each cause with each, and the causes in their order: b, the head, the count, the lengths of scratch and output, a faulty word. */
+
+enum { HEADS = 3, FAULTS = 5, COUNTS = 6, SCRATCHES = 8, OUTPUTS = 6 };
+
+/* a column of blocks: head 0 and fault 0 are as they should be */
+static void make_faulty(Sheet *sheet, uint32_t blocks, int head, int fault) {
+    make_sheet(sheet, 1, blocks, SMOOTH);
+    size_t end = sheet->count - 1;
+    if (head == 1) sheet->words[0] = make_head(COEFFICIENT_HEAD, 1, blocks);
+    if (head == 2) sheet->words[0] = make_head(SAMPLE_HEAD, 1, 0);
+    if (fault == 1) sheet->words[1] = make_word(COEFFICIENT, 0);
+    if (fault == 2 || fault == 4) sheet->words[end - 1] = make_word(SAMPLE, LOWEST - 1);
+    if (fault == 3 || fault == 4) sheet->words[end] = make_word(END, 0);
+}
+
+/* every length of each buffer; those of the output are about the count of the words */
+static void check_all_lengths(uint32_t blocks, int head, int fault, uint32_t b) {
+    static const size_t scratches[SCRATCHES] = {0, 1, SET - 1, SET, SET + 1, SET + 256, SET + 65536, LONGEST};
+    size_t full = sheet_count(blocks), counts[COUNTS] = {0, 1, full - 1, full, full + 1, LONGEST};
+    Sheet sheet;
+    make_faulty(&sheet, blocks, head, fault);
+    for (int l = 0; l < COUNTS * SCRATCHES * OUTPUTS; l++) {
+        size_t n = counts[l / OUTPUTS / SCRATCHES], k = scratches[l / OUTPUTS % SCRATCHES];
+        size_t outputs[OUTPUTS] = {0, 1, n == 0 ? 0 : n - 1, n, n + (n < LONGEST), LONGEST}, m = outputs[l % OUTPUTS];
+        begin("%zu words, scratch %zu, output %zu, of %u blocks, head %d, fault %d, b = %u", n, k, m, (unsigned)blocks, head, fault, (unsigned)b);
+        check_lengths(&sheet, n, b, k, m);
+    }
+}
+
+static void orders(void) {
+    static const uint32_t blocks[] = {1, 2, 128};
+    for (int n = 0; n < (int)COUNT(blocks) * HEADS * FAULTS; n++) {
+        int head = n % HEADS, fault = n / HEADS % FAULTS;
+        check_all_lengths(blocks[n / HEADS / FAULTS], head, fault, widths[n / HEADS % WIDTHS]);
+        check_all_lengths(blocks[n / HEADS / FAULTS], head, fault, 12);
+    }
+}
+
+static void no_widths(void) {
+    Sheet sheet;
+    for (int n = 0; n < NO_WIDTHS * HEADS * FAULTS; n++) {
+        uint32_t b = no_width(n / HEADS / FAULTS);
+        make_faulty(&sheet, 2, n % HEADS, n / HEADS % FAULTS);
+        begin("b = %u, head %d, fault %d", (unsigned)b, n % HEADS, n / HEADS % FAULTS);
+        expect(check_lengths(&sheet, sheet.count, b, SET, sheet.count).number == BAD_WIDTH, "the second program has another answer");
+    }
+}
+
+/* lengths that are right, or too short, in 32 bits: the whole length counts, and is named; what is not to be written is as it was */
+static void lengths_above_32_bits(void) {
+    static const int32_t zeros[SET];
+    Sheet sheet;
+    int32_t *huge = huge_buffer(), scratch[SET] = {0}, elements[SET];
+    uint32_t output[66] = {0}, wanted[66];
+    size_t many = ABOVE_32_BITS + 66;
+    begin("a length above 32 bits");
+    make_sheet(&sheet, 1, 1, ANY);
+    second_sheet(sheet.words, 66, 26, elements, SET, wanted, 66);
+    struct weld_dct_answer long_scratch = weld_dct_sheet(sheet.words, 66, 26, huge, ABOVE_32_BITS + SET, output, 66);
+    expect_answer("sheet", (Answer){BAD_LENGTH, 0}, long_scratch.number, long_scratch.place);
+    expect(memcmp(output, zeros, sizeof output) == 0 && memcmp(huge, zeros, sizeof zeros) == 0, "a refused call writes into a buffer");
+    struct weld_dct_answer long_output = weld_dct_sheet(sheet.words, 66, 26, scratch, SET, (uint32_t *)huge, ABOVE_32_BITS);
+    expect_answer("sheet", (Answer){ACCEPTED, 66}, long_output.number, long_output.place);
+    expect(memcmp(huge, wanted, sizeof wanted) == 0 && memcmp(huge + 66, zeros, sizeof zeros) == 0, "the output is another");
+    expect(memcmp(scratch, elements, sizeof elements) == 0, "the scratch is another");
+    memcpy(huge, sheet.words, 66 * sizeof sheet.words[0]);
+    struct weld_dct_answer long_sheet = weld_dct_sheet((uint32_t *)huge, many, 26, scratch, SET, output, 66);
+    expect_answer("sheet", (Answer){BAD_WORDS, many}, long_sheet.number, long_sheet.place);
+    expect(memcmp(output, zeros, sizeof output) == 0 && memcmp(scratch, elements, sizeof elements) == 0, "a refused call writes into a buffer");
+}
+
+static void random_sheets(void) {
+    Sheet sheet;
+    for (int n = 0; n < 8000; n++) {
+        uint32_t a = (uint32_t)any(1, n % 50 == 0 ? 16 : 4), d = (uint32_t)any(1, n % 50 == 0 ? 8 : 4), b = widths[any(0, WIDTHS - 1)];
+        enum pattern pattern = (enum pattern)any(0, PATTERNS - 1);
+        make_sheet(&sheet, a, d, pattern);
+        if (n % 4 != 0) damage(&sheet);
+        begin("random sheet %d, made as %u by %u blocks of pattern %u, b = %u", n, (unsigned)a, (unsigned)d, (unsigned)pattern, (unsigned)b);
+        check_lengths(&sheet, sheet.count, b, n % 16 == 1 ? (size_t)any(0, 2 * SET) : SET, n % 16 == 2 ? (size_t)any(0, ROOM) : sheet.count);
+    }
+}
+
+int main(void) {
+    int calls = 0;
+    start("sheet_job");
+    for (int w = 0; w < WIDTHS; w++) {
+        width = widths[w];
+        sheet_cases(&(Job){check_sheet, width, SIZE_MAX});
+    }
+    orders();
+    no_widths();
+    lengths_above_32_bits();
+    random_sheets();
+    begin("end");
+    for (int n = 0; n < ANSWERS; n++) {
+        expect((answered[n] > 0) == (n != BAD_MAGNITUDES && n != NO_BLOCK), "the answer %d came %d times", n, answered[n]);
+        calls += answered[n];
+    }
+    printf("sheet_job: %d calls as 01 has them, %d accepted, %d refused for cause 1, %d for 2, %d for 3, %d for 6, %d for 7, %d for 8; seed %llu\n",
+           calls, answered[ACCEPTED], answered[BAD_LENGTH], answered[BAD_SAMPLE], answered[BAD_WIDTH], answered[BAD_HEAD], answered[BAD_WORDS],
+           answered[BAD_END], (unsigned long long)seed);
+    return 0;
+}
