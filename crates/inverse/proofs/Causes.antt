@@ -16,7 +16,7 @@ use Rattle.answers.proofs.Accepted.{unless-passes, lowest-passes}
 use Rattle.accepted_sets.specs.Sets.{above-limit, AcceptedSet}
 use Rattle.accepted_sets.proofs.Limit.{none-above, searched}
 use Rattle.inverse.specs.Back.{candidate, is-block-of, back-returned, back-samples}
-use Rattle.inverse.specs.Passes.{Restores}
+use Rattle.passes_back.specs.Passes.{Restores}
 use Rattle.inverse.proofs.Candidate.{length-candidate, block-facts, only-candidate}
 
 -- past causes 1 and 4, the candidate decides

@@ -1,6 +1,4 @@
--- The rows of the way back, the block that they restore, the comparison that decides, the ways out of the job, and what it means.
-pub mod Rows
-pub mod Blocks
+-- The comparison that decides, the ways out of the job, and what it means.
 pub mod Comparison
 pub mod Candidate
 pub mod Causes

@@ -1,9 +1,9 @@
 -- `restored` meets its contract: the passes over rows and then columns restore the block.
 -- Assumes nothing.
 use borrow.Author.Needs.{needs}
-use Rattle.inverse.proofs.Blocks.{room-second, restores}
-use Rattle.inverse.proofs.restored.Statement.{statement}
-use Rattle.inverse.proofs.restored.Tie as tie
+use Rattle.passes_back.proofs.Blocks.{room-second, restores}
+use Rattle.passes_back.proofs.restored.Statement.{statement}
+use Rattle.passes_back.proofs.restored.Tie as tie
 
 rows-back-requires : tie.Need-rows-back-requires
 rows-back-requires c κs = search needs

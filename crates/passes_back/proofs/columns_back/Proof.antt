@@ -10,9 +10,9 @@ use Rattle.elements.specs.Buffer.{entry}
 use Rattle.number_step_back.specs.Half.{Halves}
 use Rattle.transform.specs.Rows.{row}
 use Rattle.transform.proofs.Blocks.{room-across}
-use Rattle.inverse.proofs.Rows.{column-gone-back}
-use Rattle.inverse.proofs.columns_back.Statement.{statement}
-use Rattle.inverse.proofs.columns_back.Tie as tie
+use Rattle.passes_back.proofs.Rows.{column-gone-back}
+use Rattle.passes_back.proofs.columns_back.Statement.{statement}
+use Rattle.passes_back.proofs.columns_back.Tie as tie
 
 abbrev Inv-loop : tie.InvT-loop
 Inv-loop x r₀ j₀ r j = Each [] 8 (λ j. Halves 8 30 (step-back (λ u. entry (row x u) j))) j r

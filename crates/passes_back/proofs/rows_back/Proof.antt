@@ -7,11 +7,11 @@ use native.Mathlib.Omega.{arith}
 use lib.Dec.{lit<}
 use Rattle.integers.proofs.Tables.{Each, each-none, each-more}
 use Rattle.elements.specs.Buffer.{Row, element-at}
-use Rattle.inverse.specs.Passes.{row-back}
-use Rattle.inverse.proofs.Blocks.{room-row}
-use Rattle.inverse.proofs.Rows.{row-gone-back}
-use Rattle.inverse.proofs.rows_back.Statement.{statement}
-use Rattle.inverse.proofs.rows_back.Tie as tie
+use Rattle.passes_back.specs.Passes.{row-back}
+use Rattle.passes_back.proofs.Blocks.{room-row}
+use Rattle.passes_back.proofs.Rows.{row-gone-back}
+use Rattle.passes_back.proofs.rows_back.Statement.{statement}
+use Rattle.passes_back.proofs.rows_back.Tie as tie
 
 abbrev Inv-loop : tie.InvT-loop
 Inv-loop elements r₀ u₀ r u = Each [] 8 (λ u. Row 8 (row-back (λ v. element-at elements (8 * u + v)))) u r

@@ -7,9 +7,9 @@ use native.Mathlib.Omega.{arith}
 use borrow.Author.Needs.{needs}
 use Rattle.integers.proofs.Tables.{Each, each-none, each-more}
 use Rattle.elements.specs.Buffer.{entry}
-use Rattle.inverse.specs.Passes.{sixteenth, row-back}
-use Rattle.inverse.proofs.row_back.Statement.{statement}
-use Rattle.inverse.proofs.row_back.Tie as tie
+use Rattle.passes_back.specs.Passes.{sixteenth, row-back}
+use Rattle.passes_back.proofs.row_back.Statement.{statement}
+use Rattle.passes_back.proofs.row_back.Tie as tie
 
 abbrev Inv-loop : tie.InvT-loop
 Inv-loop y r₀ n₀ r n = Each (record { components = [] }) 8 (λ n a. a .components ≡ sixteenth (entry y n)) n r

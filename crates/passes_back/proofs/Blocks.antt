@@ -25,9 +25,9 @@ use Rattle.transform.specs.Rows.{Rows, Rooms, row}
 use Rattle.transform.proofs.Blocks.{column, frequencies, eight-frequencies}
 use Rattle.transform.proofs.Meaning.{element-of}
 use Rattle.accepted_sets.specs.Sets.{AcceptedSet}
-use Rattle.inverse.specs.Passes.{row-back, at, ColumnsBack, Restores}
+use Rattle.passes_back.specs.Passes.{row-back, at, ColumnsBack, Restores}
 use Rattle.step_back.proofs.Halves.{Small, small-room}
-use Rattle.inverse.proofs.Rows.{small-row-back, row-restored, half-restored}
+use Rattle.passes_back.proofs.Rows.{small-row-back, row-restored, half-restored}
 
 -- room: no component is above the limit, at either pass
 

@@ -23,7 +23,7 @@ use Rattle.step_back.proofs.Halves.{Small, small-products}
 use Rattle.number_step_back.specs.Half.{Half, Halves}
 use Rattle.transform.specs.Rows.{row}
 use Rattle.transform.proofs.Blocks.{across}
-use Rattle.inverse.specs.Passes.{sixteenth, row-back}
+use Rattle.passes_back.specs.Passes.{sixteenth, row-back}
 
 summed-small : {B : ℕ} (r : ℕ → List ℤ) → ((k : ℕ) → k < 8 → Small B (r k)) → (n : ℕ) → Small (8 * (B + B)) (step-back r n)
 unfolding step-back

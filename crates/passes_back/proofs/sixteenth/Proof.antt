@@ -9,9 +9,9 @@ use borrow.Author.Needs.{needs}
 use Rattle.integers.proofs.Signed.{shift-kept}
 use Rattle.integers.proofs.Tables.{Filled, filled-none, filled-more, filled-all}
 use Rattle.ring.specs.Element.{component}
-use Rattle.inverse.specs.Passes.{sixteenth}
-use Rattle.inverse.proofs.sixteenth.Statement.{statement}
-use Rattle.inverse.proofs.sixteenth.Tie as tie
+use Rattle.passes_back.specs.Passes.{sixteenth}
+use Rattle.passes_back.proofs.sixteenth.Statement.{statement}
+use Rattle.passes_back.proofs.sixteenth.Tie as tie
 
 abbrev Inv-loop : tie.InvT-loop
 Inv-loop u r₀ k₀ r k = Filled (pos 0) 8 (λ k. shrZ (component u k) 16) k r

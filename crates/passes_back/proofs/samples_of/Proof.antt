@@ -8,9 +8,9 @@ use mir.Syntax.{w32}
 use borrow.Author.Needs.{needs}
 use Rattle.integers.proofs.Signed.{shift-kept}
 use Rattle.integers.proofs.Tables.{Filled, filled-none, filled-more, filled-all}
-use Rattle.inverse.specs.Passes.{at}
-use Rattle.inverse.proofs.samples_of.Statement.{statement}
-use Rattle.inverse.proofs.samples_of.Tie as tie
+use Rattle.passes_back.specs.Passes.{at}
+use Rattle.passes_back.proofs.samples_of.Statement.{statement}
+use Rattle.passes_back.proofs.samples_of.Tie as tie
 
 abbrev Inv-loop : tie.InvT-loop
 Inv-loop x r₀ n₀ r n = Filled (pos 0) 64 (λ n. shrZ (at x (n % 8) (n / 8)) 8) n r

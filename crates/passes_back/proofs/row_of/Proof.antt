@@ -8,8 +8,8 @@ use lib.Dec.{lit<}
 use lib.ListN.{length-replicate}
 use Rattle.integers.proofs.Tables.{Each, each-none, each-more}
 use Rattle.elements.specs.Buffer.{element-at}
-use Rattle.inverse.proofs.row_of.Statement.{statement}
-use Rattle.inverse.proofs.row_of.Tie as tie
+use Rattle.passes_back.proofs.row_of.Statement.{statement}
+use Rattle.passes_back.proofs.row_of.Tie as tie
 
 abbrev Inv-loop : tie.InvT-loop
 Inv-loop elements u r₀ v₀ r v = Each (record { components = [] }) 8 (λ v a. a .components ≡ element-at elements (8 * u + v)) v r
