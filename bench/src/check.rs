@@ -1,8 +1,8 @@
 //! Each side's results, looked at before anything is timed.
-use crate::inputs::{Elements, Samples};
-use crate::jobs::{Jobs, LIBRARY, PLAIN};
+use crate::inputs::{Elements, Given, Samples};
+use crate::jobs::{Jobs, Ways, DENSE, LIBRARY, PLAIN};
 use crate::{doubles, jpeg};
-use weld_dct::{Refusal, COMPONENTS, HIGHEST_SAMPLE, PLACES, WIDTHS};
+use weld_dct::{Refusal, COMPONENTS, HIGHEST_SAMPLE, MAGNITUDES_LIMIT, PLACES, WIDTHS};
 
 type Outcome = Result<(), String>;
 
@@ -11,65 +11,79 @@ fn expect(holds: bool, otherwise: &str) -> Outcome {
     holds.then_some(()).ok_or(otherwise.to_string())
 }
 
-/// All that the block jobs return and leave for a block.
-fn of_block(jobs: Jobs, samples: &[i32]) -> (Vec<Result<(), Refusal>>, Vec<i32>) {
-    let (mut elements, mut again, mut coefficients) = ([0; COMPONENTS], [0; PLACES], [0; PLACES]);
-    let mut returned = vec![
-        (jobs.forward)(samples, &mut elements),
-        (jobs.back)(&elements, &mut again),
+/// All that forward and back return and leave for a block.
+fn both_ways(ways: Ways, samples: &[i32]) -> ([Result<(), Refusal>; 2], Elements, Samples) {
+    let (mut elements, mut again) = ([0; COMPONENTS], [0; PLACES]);
+    let returned = [
+        (ways.forward)(samples, &mut elements),
+        (ways.back)(&elements, &mut again),
     ];
-    let mut left = [&elements[..], &again].concat();
-    for b in WIDTHS {
-        returned.push((jobs.round)(&elements, b, &mut coefficients));
-        left.extend(coefficients);
-    }
-    (returned, left)
+    (returned, elements, again)
+}
+
+/// All that round returns and leaves for a set.
+fn rounded(jobs: Jobs, elements: &Elements, b: u32) -> (Result<(), Refusal>, Samples) {
+    let mut coefficients = [0; PLACES];
+    let returned = (jobs.round)(elements, b, &mut coefficients);
+    (returned, coefficients)
 }
 
 /// All that the sheet job returns and leaves.
-fn of_sheet(
-    jobs: Jobs,
-    words: &[u32],
-    b: u32,
-) -> (Result<usize, Refusal>, [i32; COMPONENTS], Vec<u32>) {
+fn of_sheet(jobs: Jobs, words: &[u32], b: u32) -> (Result<usize, Refusal>, Elements, Vec<u32>) {
     let (mut scratch, mut output) = ([0; COMPONENTS], vec![0; words.len()]);
-    (
-        (jobs.sheet)(words, b, &mut scratch, &mut output),
-        scratch,
-        output,
-    )
+    let returned = (jobs.sheet)(words, b, &mut scratch, &mut output);
+    (returned, scratch, output)
 }
 
-/// What the jobs return for a set that no block has, for one above the limit, and for a sheet with a wrong word.
-fn of_refused(jobs: Jobs, samples: &[i32], words: &[u32]) -> Vec<Result<usize, Refusal>> {
-    let (mut elements, mut made, mut words) = ([0; COMPONENTS], [0; PLACES], words.to_vec());
-    let mut returned = vec![(jobs.forward)(samples, &mut elements).map(|()| 0)];
-    for more in [1, i32::MAX / 2] {
-        elements[9] += more;
-        returned.push((jobs.back)(&elements, &mut made).map(|()| 0));
-        returned.push((jobs.round)(&elements, 11, &mut made).map(|()| 0));
-    }
-    words[7] = 0;
-    returned.push(of_sheet(jobs, &words, 26).0);
-    returned
+/// A block's elements with one component altered, in a row that back reads and in one that it does not. Such a set has no
+/// block, or is above the limit in a sum alone or already in a component.
+fn altered(elements: &Elements) -> Vec<Elements> {
+    let alter = |i: usize, to| {
+        let mut altered = *elements;
+        altered[i] = to;
+        altered
+    };
+    [9, COMPONENTS - 9]
+        .into_iter()
+        .flat_map(|i| [elements[i] + 1, MAGNITUDES_LIMIT as i32, i32::MIN].map(|to| alter(i, to)))
+        .collect()
 }
 
-/// Plain Rust equals the library, for every block and every sheet, and for some that are refused.
-pub fn plain(blocks: &[Samples], sheets: &[Vec<u32>]) -> Outcome {
-    let mut outside = blocks[0];
+/// Forward and back of others equal the library's, for every block, for one out of range, and for altered sets.
+fn ways(others: Ways, given: &Given) -> Outcome {
+    let differs = format!("{} differs from the library", others.name);
+    let mut outside = given.blocks[0];
     outside[9] = HIGHEST_SAMPLE + 1;
-    for samples in blocks.iter().chain([&outside]) {
+    for samples in given.blocks.iter().chain([&outside]) {
         expect(
-            of_block(LIBRARY, samples) == of_block(PLAIN, samples),
-            "plain Rust differs from the library in a block",
+            both_ways(LIBRARY.ways, samples) == both_ways(others, samples),
+            &differs,
         )?;
     }
-    expect(
-        of_refused(LIBRARY, &blocks[0], &sheets[0]) == of_refused(PLAIN, &blocks[0], &sheets[0]),
-        "plain Rust refuses otherwise than the library",
-    )?;
-    for words in sheets {
-        for b in WIDTHS {
+    for set in altered(&given.sets[0]) {
+        let back = |ways: Ways| (ways.back)(&set, &mut [0; PLACES]);
+        expect(back(LIBRARY.ways) == back(others), &differs)?;
+    }
+    Ok(())
+}
+
+/// Plain Rust equals the library in all jobs, and the dense passes do in theirs.
+pub fn exact(given: &Given) -> Outcome {
+    ways(PLAIN.ways, given)?;
+    ways(DENSE, given)?;
+    let faulty = [0, 2 << 28 | 2048].map(|word| {
+        let mut words = given.sheets[0].clone();
+        words[7] = word;
+        words
+    });
+    for b in WIDTHS {
+        for set in given.sets.iter().chain(&altered(&given.sets[0])) {
+            expect(
+                rounded(LIBRARY, set, b) == rounded(PLAIN, set, b),
+                "plain Rust rounds otherwise than the library",
+            )?;
+        }
+        for words in given.sheets.iter().chain(&faulty) {
             expect(
                 of_sheet(LIBRARY, words, b) == of_sheet(PLAIN, words, b),
                 "plain Rust differs from the library in a sheet",
@@ -88,9 +102,9 @@ fn coefficients(elements: &Elements) -> Samples {
 
 /// Eight times the DCT values in doubles lie no further from the library's coefficients at 26 than these promise, and
 /// give the block back.
-pub fn doubles(blocks: &[Samples], sets: &[Elements]) -> Outcome {
+pub fn doubles(given: &Given) -> Outcome {
     let most = 0.5 + 65536.0 / f64::from(1 << 26) + 1e-6;
-    for (samples, elements) in blocks.iter().zip(sets) {
+    for (samples, elements) in given.blocks.iter().zip(&given.sets) {
         let eighths = doubles::forward(samples);
         let near = |(x, y): (&f64, i32)| (x - f64::from(y)).abs() <= most;
         let made = coefficients(elements);
@@ -114,9 +128,9 @@ pub fn doubles(blocks: &[Samples], sets: &[Elements]) -> Outcome {
 }
 
 /// Every version of libjpeg-turbo's transform is within 1 of the library's coefficients at 26, for samples of 8 bits.
-pub fn jpeg(blocks: &[Samples], sets: &[Elements]) -> Outcome {
+pub fn jpeg(given: &Given) -> Outcome {
     for (_, version) in jpeg::versions() {
-        for (samples, elements) in blocks.iter().zip(sets) {
+        for (samples, elements) in given.blocks.iter().zip(&given.sets) {
             let mut block = jpeg::Block(samples.map(|x| x as i16));
             jpeg::forward(version, &mut block);
             let near = |(x, y): (&i16, i32)| i32::from(*x).abs_diff(y) <= 1;

@@ -1,13 +1,35 @@
 //! What every side is given: blocks, half of them random and half smooth with a little grain, their exact elements, and
 //! sheets of them.
 use std::array::from_fn;
-use weld_dct::{forward, sheet_words, Refusal, COMPONENTS, PLACES};
+use weld_dct::{forward, sheet_words, Refusal, BLOCKS_LIMIT, COMPONENTS, PLACES};
+
+/// The blocks that are given.
+pub const BLOCKS: usize = 256;
 
 /// 64 samples.
 pub type Samples = [i32; PLACES];
 
 /// The exact elements of a block.
 pub type Elements = [i32; COMPONENTS];
+
+/// Blocks, their exact elements, and the sheets that they fill.
+pub struct Given {
+    pub blocks: Vec<Samples>,
+    pub sets: Vec<Elements>,
+    pub sheets: Vec<Vec<u32>>,
+}
+
+impl Given {
+    /// With samples of so many bits, sign included.
+    pub fn new(bits: u32) -> Result<Given, String> {
+        let blocks = blocks(bits);
+        Ok(Given {
+            sets: elements(&blocks).map_err(|refusal| refusal.to_string())?,
+            sheets: sheets(&blocks, BLOCKS_LIMIT),
+            blocks,
+        })
+    }
+}
 
 /// Numbers from low to high, by xorshift.
 struct Random(u64);
@@ -36,8 +58,8 @@ fn smooth_block(random: &mut Random, most: i32) -> Samples {
     from_fn(|n| slope(n) + random.next(-most / 64, most / 64))
 }
 
-/// Blocks with samples of so many bits, sign included, in turn random and smooth.
-pub fn blocks(count: usize, bits: u32) -> Vec<Samples> {
+/// Blocks with samples of so many bits, in turn random and smooth.
+fn blocks(bits: u32) -> Vec<Samples> {
     let mut random = Random(88172645463325252);
     let most = (1 << (bits - 1)) - 1;
     let pair = |_| {
@@ -46,11 +68,11 @@ pub fn blocks(count: usize, bits: u32) -> Vec<Samples> {
             smooth_block(&mut random, most),
         ]
     };
-    (0..count / 2).flat_map(pair).collect()
+    (0..BLOCKS / 2).flat_map(pair).collect()
 }
 
 /// The exact elements of each block.
-pub fn elements(blocks: &[Samples]) -> Result<Vec<Elements>, Refusal> {
+fn elements(blocks: &[Samples]) -> Result<Vec<Elements>, Refusal> {
     let each = |block: &Samples| {
         let mut made = [0; COMPONENTS];
         forward(block, &mut made).map(|()| made)

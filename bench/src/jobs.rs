@@ -1,8 +1,10 @@
-//! The four jobs, as the library and as plain Rust have them, behind the same pointers: neither is worked into the loop
-//! that times it.
-use crate::dense;
-use crate::inputs::{Elements, Samples};
+//! The jobs, as the library and as plain Rust have them, behind the same pointers: none is worked into the loop that
+//! times it.
+use crate::dense::Dense;
+use crate::inputs::{Elements, Given, Samples};
+use crate::plain::ByClass;
 use crate::timing::Side;
+use crate::{exact, rounding, sheets};
 use std::hint::black_box;
 use weld_dct::{Refusal, COMPONENTS, PLACES, WIDTHS};
 
@@ -10,55 +12,59 @@ type OneWay = fn(&[i32], &mut [i32]) -> Result<(), Refusal>;
 type Round = fn(&[i32], u32, &mut [i32]) -> Result<(), Refusal>;
 type Sheet = fn(&[u32], u32, &mut [i32], &mut [u32]) -> Result<usize, Refusal>;
 
+/// Forward and back.
+#[derive(Clone, Copy)]
+pub struct Ways {
+    pub name: &'static str,
+    pub forward: OneWay,
+    pub back: OneWay,
+}
+
 /// A library's four jobs.
 #[derive(Clone, Copy)]
 pub struct Jobs {
-    name: &'static str,
-    pub forward: OneWay,
-    pub back: OneWay,
+    pub ways: Ways,
     pub round: Round,
     pub sheet: Sheet,
 }
 
 pub const LIBRARY: Jobs = Jobs {
-    name: "library",
-    forward: weld_dct::forward,
-    back: weld_dct::back,
+    ways: Ways {
+        name: "library",
+        forward: weld_dct::forward,
+        back: weld_dct::back,
+    },
     round: weld_dct::round,
     sheet: weld_dct::sheet,
 };
 
 pub const PLAIN: Jobs = Jobs {
-    name: "plain Rust",
-    forward: dense::forward,
-    back: dense::back,
-    round: dense::round,
-    sheet: dense::sheet,
+    ways: Ways {
+        name: "plain Rust",
+        forward: exact::forward::<ByClass>,
+        back: exact::back::<ByClass>,
+    },
+    round: rounding::round,
+    sheet: sheets::sheet,
 };
 
-impl Jobs {
-    /// Forward, back, round at each width, and sheet at 26, over all of these.
-    pub fn sides<'a>(
-        self,
-        blocks: &'a [Samples],
-        sets: &'a [Elements],
-        sheets: &'a [Vec<u32>],
-    ) -> Vec<Side<'a>> {
-        let mut sides = vec![
-            self.side("forward", blocks.len(), move || self.all_forward(blocks)),
-            self.side("back", blocks.len(), move || self.all_back(sets)),
-        ];
-        for b in WIDTHS {
-            sides.push(self.side(&format!("round at {b}"), sets.len(), move || {
-                self.all_rounded(sets, b)
-            }));
-        }
-        sides.push(self.side("sheet at 26", blocks.len(), move || self.all_sheets(sheets)));
-        sides
+pub const DENSE: Ways = Ways {
+    name: "exact, dense",
+    forward: exact::forward::<Dense>,
+    back: exact::back::<Dense>,
+};
+
+impl Ways {
+    /// Forward and back over all of these.
+    pub fn sides(self, given: &Given) -> Vec<Side<'_>> {
+        vec![
+            self.side("forward", given, move || self.all_forward(&given.blocks)),
+            self.side("back", given, move || self.all_back(&given.sets)),
+        ]
     }
 
-    fn side<'a>(self, job: &str, blocks: usize, work: impl FnMut() + 'a) -> Side<'a> {
-        Side::new(&format!("{}: {job}", self.name), blocks, work)
+    fn side<'a>(self, job: &str, given: &Given, work: impl FnMut() + 'a) -> Side<'a> {
+        Side::new(&format!("{}: {job}", self.name), given.blocks.len(), work)
     }
 
     fn all_forward(self, blocks: &[Samples]) {
@@ -76,6 +82,20 @@ impl Jobs {
             black_box(&samples);
         }
     }
+}
+
+impl Jobs {
+    /// Forward, back, round at each width, and sheet at 26, over all of these.
+    pub fn sides(self, given: &Given) -> Vec<Side<'_>> {
+        let mut sides = self.ways.sides(given);
+        for b in WIDTHS {
+            let work = move || self.all_rounded(&given.sets, b);
+            sides.push(self.ways.side(&format!("round at {b}"), given, work));
+        }
+        let work = move || self.all_sheets(&given.sheets);
+        sides.push(self.ways.side("sheet at 26", given, work));
+        sides
+    }
 
     fn all_rounded(self, sets: &[Elements], b: u32) {
         let mut coefficients = [0; PLACES];
@@ -89,7 +109,7 @@ impl Jobs {
     pub fn all_forward_and_rounded(self, blocks: &[Samples]) {
         let (mut elements, mut coefficients) = ([0; COMPONENTS], [0; PLACES]);
         for samples in blocks {
-            let _ = black_box((self.forward)(black_box(samples), &mut elements));
+            let _ = black_box((self.ways.forward)(black_box(samples), &mut elements));
             let _ = black_box((self.round)(black_box(&elements), 26, &mut coefficients));
             black_box(&coefficients);
         }

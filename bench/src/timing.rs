@@ -45,6 +45,16 @@ pub fn take(sides: &mut [Side], duration: Duration) -> (Vec<Time>, usize) {
     (times.collect(), rounds)
 }
 
+/// The work of the side of this name, so many times.
+pub fn repeat(sides: &mut [Side], name: &str, count: usize) -> Result<(), String> {
+    let found = sides.iter_mut().find(|side| side.name == name);
+    let side = found.ok_or("no side has this name")?;
+    for _ in 0..count {
+        (side.work)();
+    }
+    Ok(())
+}
+
 fn summary(name: &str, mut taken: Vec<f64>) -> Time {
     taken.sort_by(f64::total_cmp);
     Time {

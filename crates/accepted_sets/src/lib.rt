@@ -14,7 +14,10 @@ use elements::element_at;
 use integers::magnitude;
 
 // The largest sum of an element's magnitudes.
-const MAGNITUDES_LIMIT: u64 = 262144;
+pub const MAGNITUDES_LIMIT: i32 = 262144;
+
+// The same, for the sums.
+const SUM_LIMIT: u64 = MAGNITUDES_LIMIT as u64;
 
 // The sum of the magnitudes of an element's components.
 fn magnitudes(u: Element) -> u64
@@ -38,7 +41,7 @@ pub fn first_above_limit(elements: &[i32]) -> usize
     let mut p = 0;
     while p < PLACES {
         let sum = magnitudes(element_at(elements, p));
-        if MAGNITUDES_LIMIT < sum {
+        if SUM_LIMIT < sum {
             return p;
         }
         p += 1;

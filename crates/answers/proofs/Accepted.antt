@@ -8,7 +8,7 @@ use native.Mathlib.Omega.{arith}
 use lib.Dec.{T, ltb, eqb, eqb→eq}
 use borrow.Author.Tests.{ne-eqb, le-ltb, ltb-true, ltb-false}
 use Rattle.integers.specs.Search.{first}
-use Rattle.integers.proofs.Search.{Passed, first-none, before-first, at-first}
+use Rattle.integers.proofs.Search.{first-none, before-first, at-first}
 use Rattle.answers.specs.Answer.{Returned, unless-at, unless, lowest, lowest-cause, accepted, written}
 
 -- no cause: the next one is asked

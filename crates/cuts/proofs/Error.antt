@@ -10,7 +10,7 @@ use lib.Pow.{pow-pos}
 use lib.Signed.{_≤ℤ_, _<ℤ_}
 use Rattle.integers.specs.Sum.{sum}
 use Rattle.integers.proofs.Division.{rounded-down}
-use Rattle.integers.proofs.Sums.{sum-first}
+use Rattle.integers.proofs.Sums.{naturals, sum-first}
 use Rattle.integers.proofs.Integer.{as-dif, dif-le, dif-lt, difs, *ℤ-pos1, ≤ℤ-trans, ≤ℤ-*ℤ, pos-≤ℤ, <ℤ→≤ℤ}
 use Rattle.ring.specs.Element.{component, magnitudes}
 use Rattle.ring.proofs.Magnitude.{sizes-le}
@@ -62,7 +62,7 @@ module _ (b E : ℕ) (m u : List ℤ) (table : TableAt b m) (small : magnitudes 
 
   size : (c : ℕ) → c ≡ 2 * (2 ^ b + 2 * E) → (pos L +ℤ pos 2 *ℤ pos (2 ^ b)) ≤ℤ pos c
   unfolding L
-  size c e = pos-≤ℤ (omega (arith, sum-first 7 (λ k. natAbs (component u k)), sizes-le 8 u))
+  size c e = pos-≤ℤ (omega (arith, sum-first 0 _+_ naturals 7 (λ k. natAbs (component u k)), sizes-le 8 u))
 
   -- 2y + 2d and 2y - 2d
   top : Fraction

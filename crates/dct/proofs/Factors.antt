@@ -1,17 +1,17 @@
 -- The factors: with all of their components, their products, and by the digits of their indices.
 -- Assumes nothing.
-use mathlib.Core.Path.{_≡_}
-use mathlib.Core.List.{List}
+use mathlib.Core.Path.{_≡_, ap}
+use mathlib.Core.List.{List, []}
 use Prim.Native.Nat.{ℕ, zero, suc, _+_, _*_, _/_, _%_, _^_, _<_}
 use native.Mathlib.Nat.{pow-suc, one-le-pow, zero-lt-suc}
 use native.Mathlib.Omega.{arith}
 use lib.IntN.{ℤ, pos, _+ℤ_, _-ℤ_}
 use Rattle.integers.specs.Sum.{sum}
-use Rattle.integers.proofs.Sums.{CommutativeMonoid, sum-blocks}
+use Rattle.integers.proofs.Sums.{CommutativeMonoid, sum-blocks, sum-cong}
 use Rattle.ring.specs.Element.{add, scale, cosine, mul}
 use Rattle.ring.proofs.Components.{Eight, eight-only, eight-cosine, eight-scale, eight-sum, eight-mul}
 use Rattle.ring.proofs.Cosines.{cosine-product}
-use Rattle.dct.specs.Transform.{angle, factor, factors, element, double-sum}
+use Rattle.dct.specs.Transform.{angle, factor, factors, element, double-sum, step}
 
 pub eight-factor : (k n : ℕ) → Eight (factor k n)
 unfolding factor
@@ -34,6 +34,16 @@ pub eight-double-sum : (x : ℕ → ℕ → ℤ) (u v : ℕ) → Eight (double-s
 unfolding double-sum
 eight-double-sum x u v =
     eight-sum 8 _ (zero-lt-suc 7) (λ i h. eight-sum 8 _ (zero-lt-suc 7) (λ j k. eight-scale (x i j) (eight-mul (eight-factor _ _) (eight-factor _ _))))
+
+-- the step of a row
+
+pub eight-step : (r : ℕ → List ℤ) → ((n : ℕ) → n < 8 → Eight (r n)) → (k : ℕ) → Eight (step r k)
+unfolding step
+eight-step r e k = eight-sum 8 _ (zero-lt-suc 7) (λ n h. eight-mul (e n h) (eight-factor k n))
+
+pub step-cong : (r s : ℕ → List ℤ) (k : ℕ) → ((n : ℕ) → n < 8 → r n ≡ s n) → step r k ≡ step s k
+unfolding step
+step-cong r s k e = sum-cong [] add 8 _ _ (λ n h. ap (λ a. mul a (factor k n)) (e n h))
 
 -- the product of two factors by their angles: a computed test of it multiplies nothing out
 unfoldable pub angle-product : ℕ → ℕ → List ℤ

@@ -1,100 +1,73 @@
--- The step by halves, as the code makes it: butterflies, which are the sums x_n + x_(7-n) and the differences x_n - x_(7-n), then the even
--- frequencies from the sums, and the odd ones from the differences.
+-- The step by halves: butterflies, which are the sums x_n + x_(7-n) and the differences x_n - x_(7-n), then the even frequencies from the sums,
+-- and the odd ones from the differences.
 -- Assumes nothing.
-use mathlib.Core.Path.{_≡_, _∙_}
+use mathlib.Core.Path.{_≡_, sym, ap, _∙_}
 use mathlib.Core.Bool.{Bool}
-use mathlib.Core.List.{List, [], _∷_}
+use mathlib.Core.List.{List, []}
 use Prim.Native.Nat.{ℕ, _+_, _*_, _-_, _<_}
+use native.Mathlib.Omega.{arith}
 use lib.Dec.{T}
-use lib.IntN.{ℤ}
-use lib.ListN.{getD}
-use Rattle.integers.specs.Test.{every}
-use Rattle.integers.proofs.Tests.{every-at}
-use Rattle.ring.specs.Element.{cosine, basis-product, mul}
-use Rattle.ring.proofs.Components.{Eight}
-use Rattle.dct.specs.Transform.{angle, factor, step, half-step}
-use Rattle.dct.proofs.Factorised.{Expression, input, plus, minus, times, value, makes, plain-sum, combination, combination-value}
+use lib.IntN.{ℤ, pos, negsuc}
+use Rattle.integers.specs.Sum.{sum}
+use Rattle.integers.specs.Test.{eqList}
+use Rattle.integers.proofs.Sums.{sum-append, sum-cong, sum-plus, sum-reverse}
+use Rattle.integers.proofs.Tests.{every₂, every₂-at, eqList→≡}
+use Rattle.ring.specs.Element.{add, scale, negate, subtract, cosine, mul}
+use Rattle.ring.proofs.Linear.{elements, scale-one}
+use Rattle.ring.proofs.Product.{mul-left, mul-right}
+use Rattle.dct.specs.Transform.{factor, step, half-step}
 
--- a whole row from its halves
+-- t(k,7-n) is t(k,n) for even k, and its negative for odd k
 
--- the half-step of four expressions
-abbrev half : ℕ → (ℕ → Expression) → Expression
-half k y = combination 3 (angle k) y
+even-at : ℕ → ℕ → Bool
+even-at i n = eqList (factor (2 * i + 0) (7 - n)) (factor (2 * i + 0) n)
 
-abbrev sums : ℕ → Expression
-sums n = plus (input n) (input (7 - n))
-
-abbrev differences : ℕ → Expression
-differences n = minus (input n) (input (7 - n))
-
-sums-at : ℕ → Bool
-sums-at i = makes 8 (factor (2 * i)) (half (2 * i) sums)
-
-sums-test : T (every 4 sums-at)
-unfolding sums-at factor cosine mul basis-product
-sums-test = tt
-
-differences-at : ℕ → Bool
-differences-at i = makes 8 (factor (2 * i + 1)) (half (2 * i + 1) differences)
-
-differences-test : T (every 4 differences-at)
-unfolding differences-at factor cosine mul basis-product
-differences-test = tt
-
-module _ (x : ℕ → List ℤ) (eights : (n : ℕ) → n < 8 → Eight (x n)) (i : ℕ) (h : i < 4) where
-  pub even-step : half-step (λ n. value (sums n) x) (2 * i) ≡ step x (2 * i)
-  unfolding half-step step factor sums-at
-  even-step =
-      combination-value 3 (angle (2 * i)) sums x
-      ∙ plain-sum 8 x eights (factor (2 * i)) (half (2 * i) sums) (every-at 4 sums-at sums-test i h)
-
-  pub odd-step : half-step (λ n. value (differences n) x) (2 * i + 1) ≡ step x (2 * i + 1)
-  unfolding half-step step factor differences-at
-  odd-step =
-      combination-value 3 (angle (2 * i + 1)) differences x
-      ∙ plain-sum 8 x eights (factor (2 * i + 1)) (half (2 * i + 1) differences) (every-at 4 differences-at differences-test i h)
-
--- the halves
-
-abbrev pub even : ℕ → Expression
-even i =
-    getD
-    (times 4 (plus (plus (input 0) (input 3)) (plus (input 1) (input 2)))
-    ∷ plus (times 2 (minus (input 0) (input 3))) (times 6 (minus (input 1) (input 2)))
-    ∷ times 4 (minus (plus (input 0) (input 3)) (plus (input 1) (input 2)))
-    ∷ minus (times 6 (minus (input 0) (input 3))) (times 2 (minus (input 1) (input 2)))
-    ∷ [])
-    i (input 0)
-
-abbrev pub odd : ℕ → Expression
-odd i =
-    getD
-    (plus (plus (times 1 (input 0)) (times 3 (input 1))) (plus (times 5 (input 2)) (times 7 (input 3)))
-    ∷ minus (minus (times 3 (input 0)) (times 7 (input 1))) (plus (times 1 (input 2)) (times 5 (input 3)))
-    ∷ plus (minus (times 5 (input 0)) (times 1 (input 1))) (plus (times 7 (input 2)) (times 3 (input 3)))
-    ∷ plus (minus (times 7 (input 0)) (times 5 (input 1))) (minus (times 3 (input 2)) (times 1 (input 3)))
-    ∷ [])
-    i (input 0)
-
-even-at : ℕ → Bool
-even-at i = makes 4 (factor (2 * i)) (even i)
-
-even-test : T (every 4 even-at)
-unfolding even-at factor cosine mul basis-product
+even-test : T (every₂ 4 even-at)
+unfolding even-at factor cosine
 even-test = tt
 
-odd-at : ℕ → Bool
-odd-at i = makes 4 (factor (2 * i + 1)) (odd i)
+pub even-mirrored : (i n : ℕ) → i < 4 → n < 4 → factor (2 * i + 0) (7 - n) ≡ factor (2 * i + 0) n
+unfolding even-at
+even-mirrored i n h l = eqList→≡ _ _ (every₂-at 4 even-at even-test i n h l)
 
-odd-test : T (every 4 odd-at)
-unfolding odd-at factor cosine mul basis-product
+odd-at : ℕ → ℕ → Bool
+odd-at i n = eqList (factor (2 * i + 1) (7 - n)) (negate (factor (2 * i + 1) n))
+
+odd-test : T (every₂ 4 odd-at)
+unfolding odd-at factor cosine
 odd-test = tt
 
-module _ (x : ℕ → List ℤ) (eights : (n : ℕ) → n < 4 → Eight (x n)) (i : ℕ) (h : i < 4) where
-  pub even-half : value (even i) x ≡ half-step x (2 * i)
-  unfolding half-step even-at
-  even-half = plain-sum 4 x eights (factor (2 * i)) (even i) (every-at 4 even-at even-test i h)
+pub odd-mirrored : (i n : ℕ) → i < 4 → n < 4 → factor (2 * i + 1) (7 - n) ≡ negate (factor (2 * i + 1) n)
+unfolding odd-at
+odd-mirrored i n h l = eqList→≡ _ _ (every₂-at 4 odd-at odd-test i n h l)
 
-  pub odd-half : value (odd i) x ≡ half-step x (2 * i + 1)
-  unfolding half-step odd-at
-  odd-half = plain-sum 4 x eights (factor (2 * i + 1)) (odd i) (every-at 4 odd-at odd-test i h)
+-- a row from its half, for a frequency k at which the mirrored factors are s times the others
+
+module _ (x : ℕ → List ℤ) (k : ℕ) (s : ℤ) (mirrored : (n : ℕ) → n < 4 → factor k (7 - n) ≡ scale s (factor k n)) where
+  term : ℕ → List ℤ
+  term n = mul (x n) (factor k n)
+
+  both : (n : ℕ) → n < 4 → mul (add (x n) (scale s (x (7 - n)))) (factor k n) ≡ add (term n) (term (7 - n))
+  unfolding term
+  both n h =
+      mul-left (factor k n) .sums (x n) (scale s (x (7 - n)))
+      ∙ ap (add (mul (x n) (factor k n))) (mul-left (factor k n) .multiples s (x (7 - n)) ∙ sym (mul-right (x (7 - n)) .multiples s (factor k n))
+      ∙ ap (mul (x (7 - n))) (sym (mirrored n h)))
+
+  last-four : sum [] add 4 (λ n. term (7 - n)) ≡ sum [] add 4 (λ n. term (4 + n))
+  last-four = sum-cong [] add 4 _ _ (λ n h. ap term (omega arith)) ∙ sym (sum-reverse [] add elements 4 (λ n. term (4 + n)))
+
+  butterfly : half-step (λ n. add (x n) (scale s (x (7 - n)))) k ≡ step x k
+  unfolding half-step step term
+  butterfly =
+      sum-cong [] add 4 _ _ both ∙ sum-plus [] add elements 4 term (λ n. term (7 - n)) ∙ ap (add (sum [] add 4 term)) last-four
+      ∙ sym (sum-append [] add elements 4 4 term)
+
+pub even-step : (x : ℕ → List ℤ) (i : ℕ) → i < 4 → half-step (λ n. add (x n) (x (7 - n))) (2 * i + 0) ≡ step x (2 * i + 0)
+unfolding half-step
+even-step x i h =
+    sum-cong [] add 4 _ _ (λ n l. ap (λ a. mul (add (x n) a) (factor (2 * i + 0) n)) (sym (scale-one (x (7 - n)))))
+    ∙ butterfly x (2 * i + 0) (pos 1) (λ n l. even-mirrored i n h l ∙ sym (scale-one (factor (2 * i + 0) n)))
+
+pub odd-step : (x : ℕ → List ℤ) (i : ℕ) → i < 4 → half-step (λ n. subtract (x n) (x (7 - n))) (2 * i + 1) ≡ step x (2 * i + 1)
+odd-step x i h = butterfly x (2 * i + 1) (negsuc 0) (λ n l. odd-mirrored i n h l)

@@ -5,6 +5,7 @@ pub mod Inverse
 pub mod Bound
 pub mod Dimensions
 pub mod Classes
-pub mod Factorised
+pub mod Conjugates
+pub mod Parts
 pub mod Halves
-pub mod HalvesBack
+pub mod NumberBack

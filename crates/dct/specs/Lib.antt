@@ -1,4 +1,5 @@
 pub mod Inverse
 pub mod Limits
+pub mod Rows
 pub mod T81
 pub mod Transform

@@ -3,21 +3,21 @@
 -- Assumes nothing.
 use mathlib.Core.Path.{_≡_}
 use mathlib.Core.Bool.{Bool, true, false, cond}
-use mathlib.Core.List.{List}
-use Prim.Native.Nat.{ℕ, _+_, _-_, _%_, _≤_, _<_, zero-le}
+use mathlib.Core.List.{List, [], _∷_}
+use Prim.Native.Nat.{ℕ, zero, suc, _+_, _-_, _%_, _≤_, _<_, zero-le}
 use native.Mathlib.Nat.{le-refl, le-trans}
 use native.Mathlib.Decide.{decLt}
 use native.Mathlib.Omega.{arith}
 use lib.Dec.{T, eqb, ltb, leb, leb→le, lit<}
-use lib.IntN.{ℤ, pos, negℤ, natAbs}
+use lib.IntN.{ℤ, pos, _-ℤ_, negℤ, natAbs}
 use lib.ListN.{List·getD-eq-default}
 use mir.Syntax.{w32}
 use mir.Val.{SFits, ofZ, toZ}
 use Rattle.integers.specs.Sum.{sum}
 use Rattle.integers.specs.Table.{table}
 use Rattle.integers.specs.Test.{every}
-use Rattle.integers.proofs.Signed.{op-fits, op-kept}
-use Rattle.integers.proofs.Magnitudes.{natAbs-neg}
+use Rattle.integers.proofs.Signed.{kept, op-fits, op-kept}
+use Rattle.integers.proofs.Magnitudes.{natAbs-neg, natAbs-sub}
 use Rattle.integers.proofs.Tables.{length-table, getD-table}
 use Rattle.integers.proofs.Tests.{every-at}
 use Rattle.ring.specs.Element.{component, only, full-turn, cosine, basis-product, mul}
@@ -29,6 +29,16 @@ use Rattle.elements.specs.Continued.{continued}
 
 pub within-le : {A B : ℕ} {a : List ℤ} → A ≤ B → Within A a → Within B a
 within-le h w = record { within = λ k. le-trans (w .within k) h }
+
+pub within-nil : {B : ℕ} → Within B []
+within-nil = record { within = λ k. zero-le }
+
+pub within-cons : {B : ℕ} {x : ℤ} {l : List ℤ} → natAbs x ≤ B → Within B l → Within B (x ∷ l)
+within-cons {B} {x} {l} h w = record { within = go }
+  where
+    go : (k : ℕ) → natAbs (component (x ∷ l) k) ≤ B
+    go zero = h
+    go (suc k) = w .within k
 
 pub within-table : (B n : ℕ) (f : ℕ → ℤ) → ((k : ℕ) → k < n → natAbs (f k) ≤ B) → Within B (table n f)
 within-table B n f h = record { within = λ k. go k (decLt k n) }
@@ -70,7 +80,20 @@ within-cosine m {B} {a} e w = rw (by-components (eight-mul (eight-cosine m) e)) 
         let form = form-component (mul (cosine m)) (mul-right (cosine m)) i in
         omega (arith, form-bound (λ b. component (mul (cosine m) b) i) form B 2 spread e (w .within))
 
--- the code's own sums and differences of two components, read from the bits of an i32
+-- the code's own numbers, read from the bits of an i32
+
+pub held : {r z : ℤ} → r ≡ z → natAbs z ≤ headroom → toZ w32 (ofZ w32 r) ≡ z
+held {z = z} e l = rw e (kept w32 z (omega arith))
+
+-- the negative of one
+module _ (z : ℤ) (l : natAbs z ≤ headroom) where
+  pub negative-fits : SFits w32 (pos 0 -ℤ toZ w32 (ofZ w32 z))
+  negative-fits = op-fits _-ℤ_ natAbs-sub w32 {B = headroom} (lit< tt) (pos 0) z zero-le l
+
+  pub negative-kept : {r : ℤ} → r ≡ pos 0 -ℤ toZ w32 (ofZ w32 z) → toZ w32 (ofZ w32 r) ≡ pos 0 -ℤ z
+  negative-kept = op-kept _-ℤ_ natAbs-sub w32 {B = headroom} (lit< tt) (pos 0) z zero-le l
+
+-- the sum or the difference of two components
 
 module _ (op : ℤ → ℤ → ℤ) (small : (x y : ℤ) → natAbs (op x y) ≤ natAbs x + natAbs y)
     {a b : List ℤ} (p : Within headroom a) (q : Within headroom b) (i j : ℕ) where

@@ -1,4 +1,4 @@
--- Elements in a buffer of numbers, and in an array of records (01, "Elements").
+-- Elements in a buffer of numbers, in an array of records, and in eight rows of eight (01, "Elements").
 use mathlib.Core.Path.{_≡_}
 use mathlib.Core.Bool.{cond}
 use mathlib.Core.List.{List, []}
@@ -25,3 +25,11 @@ entry l n = getD l n (record { components = [] }) .components
 -- the first n elements of an array are f 0, f 1, ..., f (n - 1)
 pub record Row (n : ℕ) (f : ℕ → List ℤ) (l : List Element) : Type 0 where
   pub at : (i : ℕ) → i < n → entry l i ≡ f i
+
+-- row i of eight rows
+abbrev pub row : List (List Element) → ℕ → List Element
+row l i = getD l i []
+
+-- the element at (i,j) of eight rows of eight is f i j
+pub record Rows (f : ℕ → ℕ → List ℤ) (l : List (List Element)) : Type 0 where
+  pub at : (i : ℕ) → i < 8 → Row 8 (f i) (row l i)

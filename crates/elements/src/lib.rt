@@ -1,15 +1,17 @@
 // Elements in code: u_0 + u_1·c_1 + ... + u_7·c_7 as a record of its eight components, which every ring operation takes and
 // returns by value.
 //
-// A component is an i32. `add`, `subtract` and `times` ask that no component of what they take is above `headroom` in magnitude, so that
-// no sum of two can wrap. A sum or a difference at most adds the bounds of its operands (`within-add`, `within-subtract`), and a product
-// with c_k doubles its operand's (`within-cosine`): a caller that knows a bound at the start knows one at each step.
+// A component is an i32. The operations ask that no component of what they take is above `headroom` in magnitude, so that no sum of two can
+// wrap; `add_four` asks room for its three sums. A sum or a difference at most adds the bounds of its operands (`within-add`,
+// `within-subtract`), and a product with c_k doubles its operand's (`within-cosine`): a caller that knows a bound at the start knows one at each
+// step.
 ghost use mathlib.Core.Path.{_≡_};
 ghost use Prim.Native.Nat.{_*_, _+_, _<_, _≤_};
 ghost use lib.IntN.{pos};
 ghost use lib.ListN.{length};
 ghost use Rattle.ring.specs.Element as ring;
-ghost use Rattle.elements.specs.Bound.{Within, headroom};
+ghost use Rattle.ring.specs.Maps as maps;
+ghost use Rattle.elements.specs.Bound.{Within, bits, headroom};
 ghost use Rattle.elements.specs.Buffer as buffers;
 ghost use Rattle.elements.specs.Continued as spec;
 use integers::minus;
@@ -62,6 +64,17 @@ pub fn add(a: Element, b: Element) -> Element
     Element { components: r }
 }
 
+// a + b + c + d, from left to right.
+pub fn add_four(a: Element, b: Element, c: Element, d: Element) -> Element
+    requires { ⌜ Within (bits 28) (a .components) ⌝ }
+    requires { ⌜ Within (bits 28) (b .components) ⌝ }
+    requires { ⌜ Within (bits 29) (c .components) ⌝ }
+    requires { ⌜ Within headroom (d .components) ⌝ }
+    ensures { λ r. ⌜ r .components ≡ ring.add (ring.add (ring.add (a .components) (b .components)) (c .components)) (d .components) ⌝ }
+{
+    add(add(add(a, b), c), d)
+}
+
 // a - b
 pub fn subtract(a: Element, b: Element) -> Element
     requires { ⌜ Within headroom (a .components) ⌝ }
@@ -111,6 +124,28 @@ pub fn times(a: Element, k: usize) -> Element
         i += 1;
     }
     Element { components: r }
+}
+
+// -a
+pub fn negate(a: Element) -> Element
+    requires { ⌜ Within headroom (a .components) ⌝ }
+    ensures { λ r. ⌜ r .components ≡ ring.negate (a .components) ⌝ }
+{
+    subtract(only(0, 0), a)
+}
+
+// The conjugate of a, which has c_5k in place of c_k.
+pub fn conjugate(a: Element) -> Element
+    requires { ⌜ Within headroom (a .components) ⌝ }
+    ensures { λ r. ⌜ r .components ≡ maps.conjugate (a .components) ⌝ }
+{
+    let u = a.components;
+    let u1 = minus(0, u[3]);
+    let u4 = minus(0, u[4]);
+    let u6 = minus(0, u[2]);
+    Element {
+        components: [u[0], u1, u[6], u[7], u4, u[1], u6, u[5]],
+    }
 }
 
 // Element p of a buffer.

@@ -162,6 +162,9 @@ pub *ℤ-negℤ : (a b : ℤ) → a *ℤ negℤ b ≡ negℤ (a *ℤ b)
 pub minus-one-*ℤ : (a : ℤ) → negsuc 0 *ℤ a ≡ negℤ a
 minus-one-*ℤ a = rw (as-dif a, as-dif (negsuc 0)) (simp difs (dif-same _ _ _ _ (omega arith)))
 
+pub *ℤ-minus-one : (a : ℤ) → a *ℤ negsuc 0 ≡ negℤ a
+*ℤ-minus-one a = *ℤ-comm a (negsuc 0) ∙ minus-one-*ℤ a
+
 pub negℤ-sub : (a b : ℤ) → negℤ (a -ℤ b) ≡ b -ℤ a
 negℤ-sub a b = rw (as-dif a, as-dif b) (simp difs (dif-same _ _ _ _ (omega arith)))
 

@@ -8,3 +8,4 @@ pub mod Search
 pub mod Tables
 pub mod Overwriting
 pub mod Tests
+pub mod Parts

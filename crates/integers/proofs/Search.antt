@@ -1,12 +1,16 @@
--- The lowest index at which a test passes, as a loop that looks from the front finds it.
+-- The lowest index at which a test passes, as a loop that looks from the front finds it, and whether there is one, as a loop without an early
+-- exit does.
 -- Assumes nothing.
-use mathlib.Core.Path.{_≡_, refl, ap, _∙_}
-use mathlib.Core.Bool.{Bool, true, false, cond}
+use mathlib.Core.Path.{_≡_, refl, sym, ap, subst, _∙_}
+use mathlib.Core.Bool.{Bool, true, false, cond, _||_}
 use Prim.Native.Nat.{ℕ, zero, suc, _+_, _≤_, _<_, zero-le}
-use native.Mathlib.Nat.{not-suc-le-zero}
-use native.Mathlib.Decide.{ℕ-discrete}
+use native.Mathlib.Nat.{not-suc-le-zero, lt-of-lt-of-le}
+use native.Mathlib.Decide.{ℕ-discrete, decLt}
+use native.Mathlib.Numerals.{add-one}
 use native.Mathlib.Omega.{arith}
-use Rattle.integers.specs.Search.{first}
+use lib.Dec.{T, ltb, leb·suc-suc}
+use borrow.Author.Tests.{lt-ltb, ltb-false}
+use Rattle.integers.specs.Search.{first, any}
 
 -- the test f fails at each index below i, and i is at most n: what a search knows at i
 pub record Passed (n : ℕ) (f : ℕ → Bool) (i : ℕ) : Type 0 where
@@ -65,3 +69,46 @@ at-first (suc n) f h = go (f zero) refl h (at-first n (λ k. f (suc k)))
         → (first n (λ k. f (suc k)) < n → f (suc (first n (λ k. f (suc k)))) ≡ true) → f (cond (f zero) zero (suc (first n (λ k. f (suc k))))) ≡ true
     go true e h rest = rw e e
     go false e h rest = let l : suc (first n (λ k. f (suc k))) < suc n = rw e at h in rw e (rest (omega arith))
+
+-- there is one where any passes
+pub first-below : (n : ℕ) (f : ℕ → Bool) (k : ℕ) → k < n → f k ≡ true → first n f < n
+first-below n f k h e = go (decLt (first n f) n)
+  where
+    go : Dec (first n f < n) → first n f < n
+    go (yes l) = l
+    go (no l) = absurd (subst T (sym e ∙ before-first n f k (omega arith)) tt)
+
+-- whether one passes
+
+any-next : (n : ℕ) (f : ℕ → Bool) → any (suc n) f ≡ (any n f || f n)
+unfolding first
+any-next zero f = go (f zero)
+  where
+    go : (t : Bool) → ltb (cond t 0 1) 1 ≡ t
+    go true = refl
+    go false = refl
+any-next (suc n) f = go (f zero) (first (suc n) (λ k. f (suc k))) (first n (λ k. f (suc k))) (any-next n (λ k. f (suc k)))
+  where
+    go : (t : Bool) (a b : ℕ) → ltb a (suc n) ≡ (ltb b n || f (suc n)) → ltb (cond t 0 (suc a)) (suc (suc n)) ≡ (ltb (cond t 0 (suc b)) (suc n) || f (suc n))
+    go true a b e = rw (lt-ltb 0 (suc (suc n)) (omega arith), lt-ltb 0 (suc n) (omega arith))
+    go false a b e = rw (leb·suc-suc (suc a) (suc n), leb·suc-suc (suc b) n) e
+
+-- r says whether the test f passes below i, and i is at most n: what a loop without an early exit knows at i
+pub record Asked (n : ℕ) (f : ℕ → Bool) (i : ℕ) (r : Bool) : Type 0 where
+  pub room : i ≤ n
+  pub so-far : r ≡ any i f
+
+module _ {n : ℕ} {f : ℕ → Bool} where
+  pub asked-none : Asked n f 0 false
+  unfolding first
+  asked-none = record { room = zero-le; so-far = refl }
+
+  pub asked-more : {i : ℕ} {r t : Bool} → i < n → Asked n f i r → t ≡ f i → Asked n f (i + 1) (r || t)
+  asked-more {i} h A e = record { room = omega arith; so-far = rw (add-one, any-next i f, A .so-far, e) }
+
+  pub asked-all : {i : ℕ} {r : Bool} → n ≤ i → Asked n f i r → r ≡ any n f
+  asked-all {i} h A = let all : i ≡ n = omega (arith, A .room) in rw all at (A .so-far)
+
+-- none does
+pub any-none : (n : ℕ) (f : ℕ → Bool) → any n f ≡ false → (k : ℕ) → k < n → f k ≡ false
+any-none n f e k h = before-first n f k (lt-of-lt-of-le h (ltb-false (first n f) n e))

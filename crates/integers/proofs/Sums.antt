@@ -1,12 +1,13 @@
 -- Sums over a range, in any commutative monoid: one set of laws for naturals, integers and elements.
 -- Assumes nothing.
-use mathlib.Core.Path.{_≡_, refl, sym, ap, _∙_}
-use Prim.Native.Nat.{ℕ, zero, suc, _+_, _*_, _≤_, _<_}
-use native.Mathlib.Nat.{add-zero, add-suc, add-assoc, add-comm, zero-add, zero-mul, mul-zero, suc-mul, mul-add, add-le-add, le-refl, not-suc-le-zero}
+use mathlib.Core.Path.{_≡_, refl, sym, ap, ap₂, _∙_}
+use Prim.Native.Nat.{ℕ, zero, suc, _+_, _*_, _-_, _≤_, _<_}
+use native.Mathlib.Nat.{add-zero, add-suc, add-assoc, add-comm, zero-add, zero-mul, mul-zero, suc-mul, mul-add, add-le-add, le-refl, mul-le-mul-left, not-suc-le-zero}
 use native.Mathlib.Decide.{ℕ-discrete}
 use native.Mathlib.Omega.{arith}
-use lib.IntN.{pos, _+ℤ_, +ℤ-comm, +ℤ-assoc, +ℤ-idl}
+use lib.IntN.{ℤ, pos, _+ℤ_, _*ℤ_, natAbs, +ℤ-comm, +ℤ-assoc, +ℤ-idl}
 use Rattle.integers.specs.Sum.{sum}
+use Rattle.integers.proofs.Magnitudes.{natAbs-add, natAbs-mul}
 
 -- (a + b) + (c + d) = (a + c) + (b + d)
 module _ {A : Type 0} (plus : A → A → A) (comm : (a b : A) → plus a b ≡ plus b a)
@@ -63,10 +64,26 @@ module _ {A : Type 0} (none : A) (plus : A → A → A) (M : CommutativeMonoid n
   sum-swap zero n f = sym (sum-none n)
   sum-swap (suc m) n f = rw (sum-swap m n f) (sym (sum-plus n (λ j. sum none plus m (λ i. f i j)) (f m)))
 
-  sum-append : (m n : ℕ) (f : ℕ → A) → sum none plus (m + n) f ≡ plus (sum none plus m f) (sum none plus n (λ k. f (m + k)))
+  pub sum-append : (m n : ℕ) (f : ℕ → A) → sum none plus (m + n) f ≡ plus (sum none plus m f) (sum none plus n (λ k. f (m + k)))
   unfolding sum
   sum-append m zero f = rw add-zero (sym (unit-right _))
   sum-append m (suc n) f = rw (add-suc, sum-append m n f) (M .assoc _ _ _)
+
+  -- the first term by itself
+  pub sum-first : (n : ℕ) (f : ℕ → A) → sum none plus (suc n) f ≡ plus (f 0) (sum none plus n (λ k. f (suc k)))
+  unfolding sum
+  sum-first zero f = M .comm none (f 0)
+  sum-first (suc n) f = rw (sum-first n f) (M .assoc _ _ _)
+
+  -- from the last term to the first
+  pub sum-reverse : (n : ℕ) (f : ℕ → A) → sum none plus n f ≡ sum none plus n (λ k. f (n - suc k))
+  unfolding sum
+  sum-reverse zero f = refl
+  sum-reverse (suc n) f =
+      let last : n ≡ suc n - 1 = omega arith in
+      M .comm (sum none plus n f) (f n)
+      ∙ ap₂ plus (ap f last) (sum-reverse n f ∙ sum-cong none plus n _ (λ k. f (suc n - suc (suc k))) (λ k h. ap f (omega arith)))
+      ∙ sym (sum-first n (λ k. f (suc n - suc k)))
 
   -- a range of m blocks of n
   pub sum-blocks : (m n : ℕ) (f : ℕ → A) → sum none plus (m * n) f ≡ sum none plus m (λ i. sum none plus n (λ j. f (i * n + j)))
@@ -90,13 +107,25 @@ module _ {A : Type 0} (none : A) (plus : A → A → A) (M : CommutativeMonoid n
 pub sum-times : (n s : ℕ) (f : ℕ → ℕ) → s * sum 0 _+_ n f ≡ sum 0 _+_ n (λ k. s * f k)
 sum-times n s f = sum-map 0 _+_ 0 _+_ (λ t. s * t) (mul-zero s) (mul-add s) n f
 
--- the first term by itself
-pub sum-first : (n : ℕ) (f : ℕ → ℕ) → sum 0 _+_ (suc n) f ≡ f 0 + sum 0 _+_ n (λ k. f (suc k))
-unfolding sum
-sum-first zero f = omega arith
-sum-first (suc n) f = omega (arith, sum-first n f)
-
 pub sum-le : (n : ℕ) (f g : ℕ → ℕ) → ((k : ℕ) → k < n → f k ≤ g k) → sum 0 _+_ n f ≤ sum 0 _+_ n g
 unfolding sum
 sum-le zero f g h = le-refl 0
 sum-le (suc n) f g h = add-le-add (sum-le n f g (λ k l. h k (omega arith))) (h n (omega arith))
+
+-- the magnitude of a sum of integers
+pub natAbs-sum : (n B : ℕ) (f : ℕ → ℤ) → ((k : ℕ) → k < n → natAbs (f k) ≤ B) → natAbs (sum (pos 0) _+ℤ_ n f) ≤ n * B
+unfolding sum
+natAbs-sum zero B f h = omega arith
+natAbs-sum (suc n) B f h = omega (arith, natAbs-add (sum (pos 0) _+ℤ_ n f) (f n), natAbs-sum n B f (λ k l. h k (omega arith)), h n (omega arith))
+
+pub natAbs-products : (n B : ℕ) (w f : ℕ → ℤ) → ((k : ℕ) → k < n → natAbs (f k) ≤ B) → natAbs (sum (pos 0) _+ℤ_ n (λ k. w k *ℤ f k)) ≤ sum 0 _+_ n (λ k. natAbs (w k)) * B
+unfolding sum
+natAbs-products zero B w f h = omega arith
+natAbs-products (suc n) B w f h =
+    omega (
+      arith,
+      natAbs-add (sum (pos 0) _+ℤ_ n (λ k. w k *ℤ f k)) (w n *ℤ f n),
+      natAbs-mul (w n) (f n),
+      mul-le-mul-left (natAbs (w n)) (h n (omega arith)),
+      natAbs-products n B w f (λ k l. h k (omega arith)),
+    )

@@ -5,17 +5,25 @@
 // (`exactly`, `refuses`).
 //
 // `restored` makes the block that has the elements, if there is one, and otherwise some other. So forward decides: it has to accept what was
-// restored, and make the same 512 numbers of it.
+// restored, and make the same 512 numbers of it. A block's set is within the limit of cause 4, so that the search for an element above it waits
+// until there is no block; what the passes ask for their sums, that no number that they read is above the limit by itself, is a quicker question.
 ghost use mathlib.Core.Path.{_≡_};
-ghost use lib.ListN.{length};
+ghost use lib.IntN.{pos};
+ghost use lib.ListN.{getD, length};
+ghost use Rattle.integers.specs.Search.{any};
 ghost use Rattle.integers.specs.Test.{eqList};
 ghost use Rattle.dct.specs.Limits.{components-size, places};
 ghost use Rattle.answers.specs.Answer.{returned};
+ghost use Rattle.passes_back.specs.Passes.{read-size};
 ghost use Rattle.inverse.specs.Back.{back-returned, back-samples, is-block-of};
+ghost use Rattle.inverse.specs.Refusal.{beyond-limit, refused-returned};
+use accepted_sets::MAGNITUDES_LIMIT;
 use accepted_sets::first_above_limit;
 use answers::Answer;
 use elements::COMPONENTS;
 use elements::PLACES;
+use integers::outside;
+use passes_back::READ_SIZE;
 use passes_back::restored;
 use transform::forward;
 
@@ -46,6 +54,42 @@ fn is_block_of(elements: &[i32], block: [i32; 64]) -> bool
     same(&made, elements)
 }
 
+// The lowest number that is not above the limit of an element's magnitudes by itself; MAGNITUDES_LIMIT is the highest.
+const LOWEST_NUMBER: i32 = -MAGNITUDES_LIMIT;
+
+// Whether a number is above that limit by itself.
+fn above(x: i32) -> bool
+    ensures { λ r. ⌜ r ≡ beyond-limit x ⌝ }
+{
+    outside(x, LOWEST_NUMBER, MAGNITUDES_LIMIT)
+}
+
+// Whether any number that the passes read is so. The loop has no early exit, so that the compiler takes several numbers at a time.
+fn any_above(elements: &[i32]) -> bool
+    requires { ⌜ length (now elements) ≡ components-size ⌝ }
+    ensures { λ r. ⌜ r ≡ any read-size (λ i. beyond-limit (getD (now (elements .entry)) i (pos 0))) ⌝ }
+{
+    let mut r = false;
+    let mut k = 0;
+    while k < READ_SIZE {
+        r = r | above(elements[k]);
+        k += 1;
+    }
+    r
+}
+
+// Why elements that no block has are refused: the first of them that is above the limit, or that there is no block.
+fn refusal(elements: &[i32]) -> Answer
+    requires { ⌜ length (now elements) ≡ components-size ⌝ }
+    ensures { λ r. ⌜ returned r ≡ refused-returned (now (elements .entry)) ⌝ }
+{
+    let p = first_above_limit(elements);
+    if p < PLACES {
+        return Answer::Magnitudes(p);
+    }
+    Answer::NoBlock
+}
+
 // A block into a buffer.
 fn store(block: [i32; 64], samples: &mut [i32])
     requires { ⌜ length (now samples) ≡ places ⌝ }
@@ -69,13 +113,12 @@ pub fn back(elements: &[i32], samples: &mut [i32]) -> Answer
     if samples.len() != PLACES {
         return Answer::Lengths;
     }
-    let p = first_above_limit(elements);
-    if p < PLACES {
-        return Answer::Magnitudes(p);
+    if any_above(elements) {
+        return refusal(elements);
     }
     let block = restored(elements);
     if !is_block_of(elements, block) {
-        return Answer::NoBlock;
+        return refusal(elements);
     }
     store(block, samples);
     Answer::Accepted(0)

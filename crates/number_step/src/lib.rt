@@ -1,80 +1,109 @@
-// The 8-point step over one row of whole numbers, with which the transform of a block begins: a product of a whole number with c_k needs no
-// addition, since c_k counts a component of its own. It makes the same elements as `step`, of a row that is known to hold whole numbers, and leaves
-// the columns of a block with hardly any work; with `step` they would take as much as the rows.
-ghost use Prim.Native.Nat.{_*_, _+_};
+// The 8-point step over one row of whole numbers (01, "Elements"): row k of the factors times the row, for each frequency k. What the elements of
+// the row have besides their component 0 does not count. The columns of a block are such rows, and so is what stands at one component of any row:
+// a step over elements is made of steps over their parts.
+//
+// It is factorised: butterflies first, the sums x_n + x_(7-n) and the differences x_n - x_(7-n), n from 0 to 3; then the even frequencies from the
+// sums, and the odd ones from the differences, each of four products in place of eight. A product of a whole number with c_m needs no addition,
+// since c_m counts a component of its own.
+//
+// 32 bits suffice: a step adds three bits to what the numbers need.
+ghost use mathlib.Core.List.{List};
+ghost use Prim.Native.Nat.{ℕ, _%_, _*_, _+_, _-_, _<_};
+ghost use mathlib.Core.Path.{_≡_};
+ghost use lib.IntN.{ℤ};
+ghost use Rattle.ring.specs.Element as ring;
+ghost use Rattle.ring.specs.Maps.{part};
 ghost use Rattle.dct.specs.Transform as dct;
+ghost use Rattle.elements.specs.Bound.{bits};
 ghost use Rattle.elements.specs.Buffer.{Row, entry};
-ghost use Rattle.step.specs.Room.{Room};
-ghost use Rattle.number_step.specs.Numbers.{Numbers};
+ghost use Rattle.element_rows.specs.Room.{Room};
+ghost use Rattle.number_step.specs.Combination.{combined};
+use element_rows::times_number;
 use elements::Element;
-use elements::component;
-use elements::only;
-use integers::minus;
-use integers::plus;
-use step::differences;
-use step::sums;
+use elements::add;
+use elements::add_four;
+use elements::subtract;
 
-// The frequencies 0, 2, 4 and 6, from the four sums of a row.
-fn even(s: [Element; 4]) -> [Element; 4]
-    requires { ⌜ Room 4 28 s ⌝ }
-    requires { ⌜ Numbers 4 s ⌝ }
-    ensures { λ r. ⌜ Row 4 (λ i. dct.half-step (entry s) (2 * i)) r ⌝ }
+// The sum of four numbers, each times the cosine of its angle, none of which is a multiple of 8.
+fn combination(r: [Element; 4], i: usize, j: usize, k: usize, l: usize) -> Element
+    requires { ⌜ Room 4 (bits 28) r ⌝ }
+    requires { ⌜ 0 < i % 8 ⌝ }
+    requires { ⌜ 0 < j % 8 ⌝ }
+    requires { ⌜ 0 < k % 8 ⌝ }
+    requires { ⌜ 0 < l % 8 ⌝ }
+    ensures { λ e. ⌜ e .components ≡ combined (entry r) i j k l ⌝ }
 {
-    let s0 = component(s[0], 0);
-    let s1 = component(s[1], 0);
-    let s2 = component(s[2], 0);
-    let s3 = component(s[3], 0);
-    let p0 = plus(s0, s3);
-    let p1 = plus(s1, s2);
-    let q0 = minus(s0, s3);
-    let q1 = minus(s1, s2);
-    let n1 = minus(0, q1);
-    let e0 = only(plus(p0, p1), 4);
-    let e2 = Element {
-        components: [0, 0, q0, 0, 0, 0, q1, 0],
-    };
-    let e4 = only(minus(p0, p1), 4);
-    let e6 = Element {
-        components: [0, 0, n1, 0, 0, 0, q0, 0],
-    };
+    add_four(
+        times_number(r[0], i),
+        times_number(r[1], j),
+        times_number(r[2], k),
+        times_number(r[3], l),
+    )
+}
+
+// x_n + x_(7-n), for n from 0 to 3.
+fn sums(x: [Element; 8]) -> [Element; 4]
+    requires { ⌜ Room 8 (bits 27) x ⌝ }
+    ensures { λ r. ⌜ Row 4 (λ n. ring.add (entry x n) (entry x (7 - n))) r ⌝ }
+{
+    [
+        add(x[0], x[7]),
+        add(x[1], x[6]),
+        add(x[2], x[5]),
+        add(x[3], x[4]),
+    ]
+}
+
+// x_n - x_(7-n), for n from 0 to 3.
+fn differences(x: [Element; 8]) -> [Element; 4]
+    requires { ⌜ Room 8 (bits 27) x ⌝ }
+    ensures { λ r. ⌜ Row 4 (λ n. ring.subtract (entry x n) (entry x (7 - n))) r ⌝ }
+{
+    [
+        subtract(x[0], x[7]),
+        subtract(x[1], x[6]),
+        subtract(x[2], x[5]),
+        subtract(x[3], x[4]),
+    ]
+}
+
+// The frequencies 0, 2, 4 and 6: the angles are 4 at frequency 0, and (2n+1)·k at any other.
+pub fn even(x: [Element; 8]) -> [Element; 4]
+    requires { ⌜ Room 8 (bits 27) x ⌝ }
+    ensures { λ r. ⌜ Row 4 (λ i. dct.step (λ n. part (entry x n) 0) (2 * i)) r ⌝ }
+{
+    let s = sums(x);
+    let e0 = combination(s, 4, 4, 4, 4);
+    let e2 = combination(s, 2, 6, 10, 14);
+    let e4 = combination(s, 4, 12, 20, 28);
+    let e6 = combination(s, 6, 18, 30, 42);
     [e0, e2, e4, e6]
 }
 
-// The frequencies 1, 3, 5 and 7, from its four differences.
-fn odd(d: [Element; 4]) -> [Element; 4]
-    requires { ⌜ Room 4 28 d ⌝ }
-    requires { ⌜ Numbers 4 d ⌝ }
-    ensures { λ r. ⌜ Row 4 (λ i. dct.half-step (entry d) (2 * i + 1)) r ⌝ }
+// The frequencies 1, 3, 5 and 7.
+pub fn odd(x: [Element; 8]) -> [Element; 4]
+    requires { ⌜ Room 8 (bits 27) x ⌝ }
+    ensures { λ r. ⌜ Row 4 (λ i. dct.step (λ n. part (entry x n) 0) (2 * i + 1)) r ⌝ }
 {
-    let d0 = component(d[0], 0);
-    let d1 = component(d[1], 0);
-    let d2 = component(d[2], 0);
-    let d3 = component(d[3], 0);
-    let n1 = minus(0, d1);
-    let n2 = minus(0, d2);
-    let n3 = minus(0, d3);
-    let e1 = Element {
-        components: [0, d0, 0, d1, 0, d2, 0, d3],
-    };
-    let e3 = Element {
-        components: [0, n2, 0, d0, 0, n3, 0, n1],
-    };
-    let e5 = Element {
-        components: [0, n1, 0, d3, 0, d0, 0, d2],
-    };
-    let e7 = Element {
-        components: [0, n3, 0, d2, 0, n1, 0, d0],
-    };
+    let d = differences(x);
+    let e1 = combination(d, 1, 3, 5, 7);
+    let e3 = combination(d, 3, 9, 15, 21);
+    let e5 = combination(d, 5, 15, 25, 35);
+    let e7 = combination(d, 7, 21, 35, 49);
     [e1, e3, e5, e7]
 }
 
-// The step over one row of whole numbers.
-pub fn number_step(x: [Element; 8]) -> [Element; 8]
-    requires { ⌜ Room 8 27 x ⌝ }
-    requires { ⌜ Numbers 8 x ⌝ }
-    ensures { λ r. ⌜ Row 8 (dct.step (entry x)) r ⌝ }
+// A row from its even and its odd frequencies.
+pub fn join(e: [Element; 4], o: [Element; 4]) -> [Element; 8]
+    ensures { λ r. ⌜ ((f : ℕ → List ℤ) → Row 4 (λ i. f (2 * i)) e → Row 4 (λ i. f (2 * i + 1)) o → Row 8 f r) ⌝ }
 {
-    let e = even(sums(x));
-    let o = odd(differences(x));
     [e[0], o[0], e[1], o[1], e[2], o[2], e[3], o[3]]
+}
+
+// The step over one row.
+pub fn number_step(x: [Element; 8]) -> [Element; 8]
+    requires { ⌜ Room 8 (bits 27) x ⌝ }
+    ensures { λ r. ⌜ Row 8 (dct.step (λ n. part (entry x n) 0)) r ⌝ }
+{
+    join(even(x), odd(x))
 }

@@ -1,3 +1,1 @@
--- Component 0 by its half, and what a row gives.
-pub mod Components
-pub mod Rows
+pub mod Halves

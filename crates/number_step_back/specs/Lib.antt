@@ -1,1 +1,1 @@
-pub mod Half
+pub mod Combination

@@ -1,99 +1,80 @@
-// The transpose of the 8-point step over one row of elements, of which component 0 alone is made: the way back ends with it, since the samples of
-// a block are whole numbers. Component 0 of c_k × a is twice u_k, for k from 1 to 7, so that a product with a cosine takes no addition. With
-// `step_back` the columns of a block would take as much work as its rows.
+// The transpose of the 8-point step over one row of elements, as far as whole numbers are asked of it: half of component 0 of what it makes at each
+// place (`number-back`), which is a sum of components of the row. It takes c_k times the step of a row to 16 times component k of that row,
+// for k from 1 to 7 (`number-inverse`).
 //
-// Each number is half of the component that it stands for (`Half`), and needs three bits more than the components of the row.
+// It is factorised as the step is: the even frequencies and the odd ones by themselves give what they sum to at the places 0 to 3, and butterflies,
+// sums and differences, all eight places.
+//
+// 32 bits suffice: a sum of eight numbers of 24 bits needs 27.
 ghost use mathlib.Core.Path.{_≡_};
-ghost use Prim.Native.Nat.{_*_, _+_, _<_};
-ghost use lib.IntN.{_+ℤ_, _-ℤ_};
+ghost use Prim.Native.Nat.{_%_, _<_};
 ghost use Rattle.ring.specs.Element as ring;
-ghost use Rattle.dct.specs.Inverse.{even-back, odd-back, step-back};
-ghost use Rattle.elements.specs.Bound.{Within, bits};
-ghost use Rattle.elements.specs.Buffer.{entry};
-ghost use Rattle.step.specs.Room.{Room};
-ghost use Rattle.number_step_back.specs.Half.{Halves};
+ghost use Rattle.dct.specs.Inverse.{half-back, number-back};
+ghost use Rattle.elements.specs.Bound.{bits};
+ghost use Rattle.elements.specs.Buffer.{Row, entry};
+ghost use Rattle.element_rows.specs.Room.{Room};
+ghost use Rattle.number_step_back.specs.Combination.{combined};
+use element_rows::along;
 use elements::Element;
-use elements::component;
-use integers::minus;
-use integers::plus;
+use elements::add;
+use elements::add_four;
+use elements::subtract;
 
-// Half of component 0 of c_j × a + c_k × b, for j and k from 1 to 7.
-fn sum_of_products(a: Element, j: usize, b: Element, k: usize) -> i32
-    requires { ⌜ Within (bits 27) (a .components) ⌝ }
-    requires { ⌜ Within (bits 27) (b .components) ⌝ }
-    requires { ⌜ j < 8 ⌝ }
-    requires { ⌜ k < 8 ⌝ }
-    ensures { λ r. ⌜ r ≡ ring.component (a .components) j +ℤ ring.component (b .components) k ⌝ }
+// The sum of the components of four elements, each along the cosine of its angle, none of which is a multiple of 8.
+fn combination_back(r: [Element; 4], i: usize, j: usize, k: usize, l: usize) -> Element
+    requires { ⌜ Room 4 (bits 24) r ⌝ }
+    requires { ⌜ 0 < i % 8 ⌝ }
+    requires { ⌜ 0 < j % 8 ⌝ }
+    requires { ⌜ 0 < k % 8 ⌝ }
+    requires { ⌜ 0 < l % 8 ⌝ }
+    ensures { λ e. ⌜ e .components ≡ ring.number (combined (entry r) i j k l) ⌝ }
 {
-    plus(component(a, j), component(b, k))
+    add_four(
+        along(r[0], i),
+        along(r[1], j),
+        along(r[2], k),
+        along(r[3], l),
+    )
 }
 
-// And of c_j × a - c_k × b.
-fn difference_of_products(a: Element, j: usize, b: Element, k: usize) -> i32
-    requires { ⌜ Within (bits 27) (a .components) ⌝ }
-    requires { ⌜ Within (bits 27) (b .components) ⌝ }
-    requires { ⌜ j < 8 ⌝ }
-    requires { ⌜ k < 8 ⌝ }
-    ensures { λ r. ⌜ r ≡ ring.component (a .components) j -ℤ ring.component (b .components) k ⌝ }
+// What the frequencies 0, 2, 4 and 6 give at the places 0 to 3: the angles are 4 at frequency 0, and (2n+1)·k at any other.
+fn even_back(x: [Element; 4]) -> [Element; 4]
+    requires { ⌜ Room 4 (bits 24) x ⌝ }
+    ensures { λ r. ⌜ Row 4 (λ n. ring.number (half-back 0 (entry x) n)) r ⌝ }
 {
-    minus(component(a, j), component(b, k))
+    let x0 = combination_back(x, 4, 2, 4, 6);
+    let x1 = combination_back(x, 4, 6, 12, 18);
+    let x2 = combination_back(x, 4, 10, 20, 30);
+    let x3 = combination_back(x, 4, 14, 28, 42);
+    [x0, x1, x2, x3]
 }
 
-// What the frequencies 0, 2, 4 and 6 of a row give at the places 0 to 3; at 7 to 4 they give the same.
-fn even_back(x: [Element; 8]) -> [i32; 4]
-    requires { ⌜ Room 8 27 x ⌝ }
-    ensures { λ r. ⌜ Halves 4 29 (even-back (λ i. entry x (2 * i))) r ⌝ }
+// What the frequencies 1, 3, 5 and 7 give there.
+fn odd_back(x: [Element; 4]) -> [Element; 4]
+    requires { ⌜ Room 4 (bits 24) x ⌝ }
+    ensures { λ r. ⌜ Row 4 (λ n. ring.number (half-back 1 (entry x) n)) r ⌝ }
 {
-    let x0 = x[0];
-    let x2 = x[2];
-    let x4 = x[4];
-    let x6 = x[6];
-    let p0 = sum_of_products(x0, 4, x4, 4);
-    let p1 = difference_of_products(x0, 4, x4, 4);
-    let q0 = sum_of_products(x2, 2, x6, 6);
-    let q1 = difference_of_products(x2, 6, x6, 2);
-    [plus(p0, q0), plus(p1, q1), minus(p1, q1), minus(p0, q0)]
+    let x0 = combination_back(x, 1, 3, 5, 7);
+    let x1 = combination_back(x, 3, 9, 15, 21);
+    let x2 = combination_back(x, 5, 15, 25, 35);
+    let x3 = combination_back(x, 7, 21, 35, 49);
+    [x0, x1, x2, x3]
 }
 
-// What the frequencies 1, 3, 5 and 7 give there; at 7 to 4 they give the negative.
-fn odd_back(x: [Element; 8]) -> [i32; 4]
-    requires { ⌜ Room 8 27 x ⌝ }
-    ensures { λ r. ⌜ Halves 4 29 (odd-back (λ i. entry x (2 * i + 1))) r ⌝ }
+// The transpose of the step over one row.
+pub fn number_step_back(x: [Element; 8]) -> [Element; 8]
+    requires { ⌜ Room 8 (bits 24) x ⌝ }
+    ensures { λ r. ⌜ Row 8 (λ n. ring.number (number-back (entry x) n)) r ⌝ }
 {
-    let x1 = x[1];
-    let x3 = x[3];
-    let x5 = x[5];
-    let x7 = x[7];
-    let r0 = plus(sum_of_products(x1, 1, x3, 3), sum_of_products(x5, 5, x7, 7));
-    let r1 = minus(
-        difference_of_products(x1, 3, x3, 7),
-        sum_of_products(x5, 1, x7, 5),
-    );
-    let r2 = plus(
-        difference_of_products(x1, 5, x3, 1),
-        sum_of_products(x5, 7, x7, 3),
-    );
-    let r3 = plus(
-        difference_of_products(x1, 7, x3, 5),
-        difference_of_products(x5, 3, x7, 1),
-    );
-    [r0, r1, r2, r3]
-}
-
-// Half of component 0 at each place of the transpose of the 8-point step over one row.
-pub fn number_step_back(x: [Element; 8]) -> [i32; 8]
-    requires { ⌜ Room 8 27 x ⌝ }
-    ensures { λ r. ⌜ Halves 8 30 (step-back (entry x)) r ⌝ }
-{
-    let e = even_back(x);
-    let o = odd_back(x);
-    let r0 = plus(e[0], o[0]);
-    let r1 = plus(e[1], o[1]);
-    let r2 = plus(e[2], o[2]);
-    let r3 = plus(e[3], o[3]);
-    let r4 = minus(e[3], o[3]);
-    let r5 = minus(e[2], o[2]);
-    let r6 = minus(e[1], o[1]);
-    let r7 = minus(e[0], o[0]);
+    let e = even_back([x[0], x[2], x[4], x[6]]);
+    let o = odd_back([x[1], x[3], x[5], x[7]]);
+    let r0 = add(e[0], o[0]);
+    let r1 = add(e[1], o[1]);
+    let r2 = add(e[2], o[2]);
+    let r3 = add(e[3], o[3]);
+    let r4 = subtract(e[3], o[3]);
+    let r5 = subtract(e[2], o[2]);
+    let r6 = subtract(e[1], o[1]);
+    let r7 = subtract(e[0], o[0]);
     [r0, r1, r2, r3, r4, r5, r6, r7]
 }

@@ -1,3 +1,3 @@
--- The rows of the way back, and the block that they restore.
+-- The columns and the rows of the way back, and the block that they restore.
+pub mod Columns
 pub mod Rows
-pub mod Blocks

@@ -1,86 +1,131 @@
--- One row or column on the way back: a row stays as small as it was, what the code gathers for it, and what it restores.
+-- The rows on the way back, the room for them, and the block that they restore.
 -- Assumes nothing.
-use mathlib.Core.Path.{_≡_, refl, sym, ap, _∙_}
-use mathlib.Core.List.{List, []}
-use Prim.Native.Nat.{ℕ, _+_, _*_, _<_}
+use mathlib.Core.Path.{_≡_, sym, ap, _∙_}
+use mathlib.Core.List.{List}
+use Prim.Native.Nat.{ℕ, _+_, _*_, _/_, _%_, _≤_, _<_}
+use native.Mathlib.Nat.{le-trans}
 use native.Mathlib.Omega.{arith}
-use lib.Dec.{lit<}
-use lib.IntN.{ℤ, pos, negsuc, _+ℤ_}
+use lib.Dec.{T, ltb, ltb→lt, lit<, lit≤}
+use lib.IntN.{ℤ, pos, _*ℤ_, natAbs}
+use lib.ListN.{getD}
 use lib.Signed.{shrZ}
-use Rattle.integers.proofs.Division.{shrZ-exact, shrZ-small}
-use Rattle.integers.proofs.Sums.{sum-cong}
+use mathlib.Core.Bool.{_&&_}
+use mir.Facts.{and-yes}
+use Rattle.integers.specs.Table.{table}
+use Rattle.integers.specs.Test.{every}
+use Rattle.integers.proofs.Tests.{every-at}
+use Rattle.integers.proofs.Division.{shrZ-exact}
+use Rattle.integers.proofs.Integer.{*ℤ-assoc}
+use Rattle.integers.proofs.Sums.{natAbs-sum}
 use Rattle.integers.proofs.Tables.{is-table, length-table}
-use Rattle.ring.specs.Element.{component, add, scale, mul}
-use Rattle.ring.proofs.Components.{Eight, component-scale}
-use Rattle.dct.specs.Inverse.{step-back}
-use Rattle.dct.specs.Transform.{factor, step}
-use Rattle.dct.proofs.Inverse.{row-inverse}
+use Rattle.ring.specs.Element.{component, number, cosine, mul}
+use Rattle.ring.specs.Maps.{dot}
+use Rattle.dct.specs.Inverse.{number-back, known-frequency, known-component, weighted}
+use Rattle.dct.specs.Limits.{places, magnitudes-limit}
+use Rattle.dct.specs.Transform.{angle, factor, step}
+use Rattle.dct.proofs.Dimensions.{element-double-sum, columns-then-rows}
+use Rattle.dct.proofs.NumberBack.{angle-between, number-back-cong, number-inverse, weighted-cong, weighted-times, column-restored}
 use Rattle.elements.specs.declared.Element.{Element}
-use Rattle.elements.specs.Buffer.{Row, entry}
+use Rattle.elements.specs.Bound.{bits, headroom}
+use Rattle.elements.specs.Buffer.{Row, Rows, element-at, entry, row}
+use Rattle.element_rows.specs.Room.{Small, Room}
 use Rattle.elements.proofs.Bounds.{within-table}
-use Rattle.step.proofs.Halves.{row-8}
-use Rattle.step_back.proofs.Halves.{Small, small-products}
-use Rattle.number_step_back.specs.Half.{Half, Halves}
-use Rattle.transform.specs.Rows.{row}
-use Rattle.transform.proofs.Blocks.{across}
-use Rattle.passes_back.specs.Passes.{sixteenth, row-back}
+use Rattle.element_rows.proofs.Rooms.{small-le, small-cosine, small-number, small-dot, row-room}
+use Rattle.transform.specs.Forward.{sample, elements-of}
+use Rattle.transform.specs.Rows.{frequencies}
+use Rattle.transform.proofs.Blocks.{column, eight-frequencies}
+use Rattle.transform.proofs.Meaning.{element-of}
+use Rattle.passes_back.specs.Passes.{Limited, Numbers, Restores, known-row}
 
-summed-small : {B : ℕ} (r : ℕ → List ℤ) → ((k : ℕ) → k < 8 → Small B (r k)) → (n : ℕ) → Small (8 * (B + B)) (step-back r n)
-unfolding step-back
-summed-small r s n = small-products r (λ k. k) (λ k. n) (lit< tt) s
+known-test : T (every 8 (λ k. ltb (known-frequency k) 5 && (ltb 0 (known-component k) && ltb (known-component k) 8)))
+known-test = tt
 
--- a row on the way back stays as small as it was
-pub small-row-back : {B : ℕ} (r : ℕ → List ℤ) → ((k : ℕ) → k < 8 → Small B (r k)) → (n : ℕ) → Small B (row-back r n)
-unfolding row-back sixteenth
-small-row-back {B} r s n = record {
-  eight = record { eight = length-table 8 divided };
-  within = within-table B 8 divided (λ i h. shrZ-small 16 B (component (step-back r n) i) (lit< tt) (rw sixteen at (summed-small r s n .within .within i)));
-}
+known : (k : ℕ) → k < 8 → (known-frequency k < 5) × (0 < known-component k) × (known-component k < 8)
+known k h =
+    let t = every-at 8 (λ k. ltb (known-frequency k) 5 && (ltb 0 (known-component k) && ltb (known-component k) 8)) known-test k h in
+    let (f, c) = and-yes (ltb (known-frequency k) 5) (ltb 0 (known-component k) && ltb (known-component k) 8) t in
+    let (s, b) = and-yes (ltb 0 (known-component k)) (ltb (known-component k) 8) c in
+    (ltb→lt (known-frequency k) 5 f, ltb→lt 0 (known-component k) s, ltb→lt (known-component k) 8 b)
+
+-- row u of the elements, times c_k
+abbrev pub product : List ℤ → ℕ → ℕ → ℕ → List ℤ
+product e u k v = mul (cosine (pos k)) (element-at e (8 * u + v))
+
+module _ {e : List ℤ} (L : Limited e) where
+  -- room: no number is above the limit
+
+  small-element : (p : ℕ) → p < 40 → Small magnitudes-limit (element-at e p)
+  unfolding element-at
+  small-element p h = record {
+    eight = length-table 8 (λ k. getD e (8 * p + k) (pos 0));
+    within = within-table magnitudes-limit 8 (λ k. getD e (8 * p + k) (pos 0)) (λ k l. L .in-limit (8 * p + k) (omega arith));
+  }
+
+  pub room-half : (p : ℕ) → p + 6 < 40 → {l : List Element} → Row 4 (λ i. element-at e (p + 2 * i)) l → Room 4 headroom l
+  room-half p h H = row-room H (λ i k. small-le (lit≤ tt) (small-element (p + 2 * i) (omega arith)))
+
+  small-product : (u k v : ℕ) → u < 5 → v < 8 → Small (bits 24) (product e u k v)
+  small-product u k v h l = small-le (lit≤ tt) (small-cosine (pos k) (small-element (8 * u + v) (omega arith)))
+
+  pub room-product : (u k : ℕ) → u < 5 → {x : List Element} → Row 8 (product e u k) x → Room 8 (bits 24) x
+  room-product u k h X = row-room X (λ v l. small-product u k v h l)
+
+  small-row : (u k n : ℕ) → u < 5 → n < 8 → natAbs (number-back (product e u k) n) ≤ 8 * bits 24
+  unfolding number-back factor
+  small-row u k n h l =
+      natAbs-sum 8 (bits 24) (λ v. dot (product e u k v) (factor v n)) (λ v b. small-dot (angle v n) (angle-between v n b l) (small-product u k v h b))
+
+  pub room-rows : {x : List (List Element)} → Rows (λ k n. number (known-row e k n)) x → Numbers x
+  unfolding known-row
+  room-rows X = record {
+    rooms = λ k h. row-room (X .at k h) (λ n l. small-number (known-row e k n) (le-trans (small-row (known-frequency k) (known-component k) n (known k h .0) l) (lit≤ tt)));
+  }
+
+-- a row from its halves l and m, each multiplied
+pub joined : (e : List ℤ) (u k : ℕ) {l m t s x : List Element} → Row 4 (λ i. element-at e (8 * u + 2 * i)) l → Row 4 (λ i. element-at e (8 * u + 1 + 2 * i)) m
+    → Row 4 (λ n. mul (cosine (pos k)) (entry l n)) t → Row 4 (λ n. mul (cosine (pos k)) (entry m n)) s
+    → ((f : ℕ → List ℤ) → Row 4 (λ i. f (2 * i)) t → Row 4 (λ i. f (2 * i + 1)) s → Row 8 f x) → Row 8 (product e u k) x
+joined e u k L M T S J =
+    J (product e u k) (record { at = λ i h. T .at i h ∙ ap (mul (cosine (pos k))) (L .at i h) })
+    (record { at = λ i h. let place : 8 * u + 1 + 2 * i ≡ 8 * u + (2 * i + 1) = omega arith in S .at i h ∙ ap (mul (cosine (pos k))) (M .at i h ∙ ap (element-at e) place) })
+
+-- what the transpose makes of it
+pub row-back : {f : ℕ → List ℤ} {x y : List Element} → Row 8 f x → Row 8 (λ n. number (number-back (entry x) n)) y → Row 8 (λ n. number (number-back f n)) y
+row-back {f} {x} X Y = record { at = λ n h. Y .at n h ∙ ap number (number-back-cong (entry x) f n (λ v b. X .at v b)) }
+
+-- the block y that has the elements, if there is one
+
+module _ {e : List ℤ} (y : List ℤ) (has : elements-of y ≡ e) where
+  element-is : (u v : ℕ) → u < 8 → v < 8 → element-at e (8 * u + v) ≡ step (λ j. frequencies y j u) v
+  element-is u v h k =
+      ap (λ l. element-at l (8 * u + v)) (sym has) ∙ element-of y (8 * u + v) (omega arith) ∙ element-double-sum (sample y) u v h k
+      ∙ columns-then-rows (λ i j. sample y (8 * i + j)) u v
+
+  -- the rows are 16 times the components by which its columns are known
+  row-is : (k j : ℕ) → k < 8 → j < 8 → known-row e k j ≡ pos 16 *ℤ component (frequencies y j (known-frequency k)) (known-component k)
+  unfolding known-row
+  row-is k j h l =
+      let u = known-frequency k in
+      let c = known-component k in
+      number-back-cong (product e u c) (λ v. mul (cosine (pos c)) (step (λ j. frequencies y j u) v)) j
+      (λ v b. ap (mul (cosine (pos c))) (element-is u v (le-trans (known k h .0) (lit≤ tt)) b))
+      ∙ number-inverse (λ j. frequencies y j u) (λ j b. eight-frequencies y j u) c (known k h .1) (known k h .2) j l
+
+  -- and the columns 128 times the samples
+  column-is : (z : ℕ → ℤ) (i j : ℕ) → i < 8 → j < 8 → ((k : ℕ) → k < 8 → z k ≡ known-row e k j) → shrZ (weighted z i) 128 ≡ column y j i
+  column-is z i j h l Z =
+      ap (λ a. shrZ a 128)
+      (weighted-cong z (λ k. pos 16 *ℤ component (frequencies y j (known-frequency k)) (known-component k)) i (λ k b. Z k b ∙ row-is k j b l)
+      ∙ weighted-times (pos 16) (λ k. component (frequencies y j (known-frequency k)) (known-component k)) i
+      ∙ ap (λ (a : ℤ). pos 16 *ℤ a) (column-restored (column y j) i h) ∙ sym (*ℤ-assoc (pos 16) (pos 8) (column y j i)))
+      ∙ shrZ-exact 128 (column y j i) (lit< tt)
+
+pub restores : {e : List ℤ} {x : List (List Element)} → Rows (λ k n. number (known-row e k n)) x → {r : List ℤ}
+    → r ≡ table places (λ n. shrZ (weighted (λ k. component (entry (row x k) (n % 8)) 0) (n / 8)) 128) → Restores e r
+restores {e} {x} X made = record { restores = λ y size has. made ∙ sym (is-table (pos 0) y places _ size (λ n h. sym (place y has n h))) }
   where
-    divided : ℕ → ℤ
-    divided k = shrZ (component (step-back r n) k) 16
-
-    sixteen : 8 * (B + B) ≡ 16 * B
-    sixteen = omega arith
-
--- rows that agree
-step-back-cong : (r s : ℕ → List ℤ) (n : ℕ) → ((k : ℕ) → k < 8 → r k ≡ s k) → step-back r n ≡ step-back s n
-unfolding step-back
-step-back-cong r s n e = sum-cong [] add 8 _ _ (λ k h. ap (λ a. mul a (factor k n)) (e k h))
-
-pub row-gone-back : {f : ℕ → List ℤ} {l r : List Element} → Row 8 f l → Row 8 (row-back (entry l)) r → Row 8 (row-back f) r
-unfolding row-back
-row-gone-back {f} {l} L R = record { at = λ n h. R .at n h ∙ ap sixteenth (step-back-cong (entry l) f n (λ k m. L .at k m)) }
-
-pub column-gone-back : (x : List (List Element)) (j : ℕ) (h : j < 8) {m n : ℕ} {l : List ℤ} → Halves m n (step-back (entry (across x j h))) l
-    → Halves m n (step-back (λ u. entry (row x u) j)) l
-column-gone-back x j h C = record {
-  at = λ i k. rw (← step-back-cong (entry (across x j h)) (λ u. entry (row x u) j) i (λ u b. gathered .at u b)) (C .at i k);
-}
-  where
-    gathered : Row 8 (λ u. entry (row x u) j) (across x j h)
-    gathered = row-8 refl refl refl refl refl refl refl refl
-
--- the step of a row x goes back to x
-sixteenth-exact : {a : List ℤ} → Eight a → sixteenth (scale (pos 16) a) ≡ a
-unfolding sixteenth
-sixteenth-exact {a} e =
-    sym (is-table (pos 0) a 8 _ (e .eight) (λ k h. sym (ap (λ z. shrZ z 16) (component-scale (pos 16) a k) ∙ shrZ-exact 16 (component a k) (lit< tt))))
-
-pub row-restored : (r x : ℕ → List ℤ) → ((n : ℕ) → n < 8 → Eight (x n)) → ((k : ℕ) → k < 8 → r k ≡ step x k)
-    → (n : ℕ) → n < 8 → row-back r n ≡ x n
-unfolding row-back step-back
-row-restored r x eights e n h =
-    ap sixteenth (step-back-cong r (step x) n e ∙ row-inverse x eights n h) ∙ sixteenth-exact (eights n h)
-
--- a number divided by 8 is its double divided by 16
-shrZ-double : (z : ℤ) → shrZ (z +ℤ z) 16 ≡ shrZ z 8
-shrZ-double (pos a) = ap pos (omega arith)
-shrZ-double (negsuc a) = ap negsuc (omega arith)
-
--- and so component 0 of x is restored by halves
-pub half-restored : (r x : ℕ → List ℤ) → ((n : ℕ) → n < 8 → Eight (x n)) → ((k : ℕ) → k < 8 → r k ≡ step x k)
-    → (n : ℕ) → n < 8 → {m : ℕ} {z : ℤ} → Half m (step-back r n) z → shrZ z 8 ≡ component (x n) 0
-unfolding row-back sixteenth
-half-restored r x eights e n h {z = z} Z =
-    sym (shrZ-double z) ∙ ap (λ y. shrZ y 16) (sym (Z .twice)) ∙ ap (λ a. component a 0) (row-restored r x eights e n h)
+    place : (y : List ℤ) → elements-of y ≡ e → (n : ℕ) → n < places → shrZ (weighted (λ k. component (entry (row x k) (n % 8)) 0) (n / 8)) 128 ≡ sample y n
+    place y has n h =
+        let split : 8 * (n / 8) + n % 8 ≡ n = omega arith in
+        column-is y has (λ k. component (entry (row x k) (n % 8)) 0) (n / 8) (n % 8) (omega arith) (omega arith)
+        (λ k b. ap (λ a. component a 0) (X .at k b .at (n % 8) (omega arith))) ∙ ap (sample y) split

@@ -1,35 +1,42 @@
 -- What the passes of the way back make, over rows and then over columns.
 use mathlib.Core.Path.{_≡_}
-use mathlib.Core.List.{List, []}
-use Prim.Native.Nat.{ℕ, _<_}
-use lib.IntN.{ℤ, pos}
+use mathlib.Core.List.{List}
+use Prim.Native.Nat.{ℕ, _+_, _*_, _≤_, _<_}
+use lib.IntN.{ℤ, pos, _+ℤ_, _*ℤ_, natAbs}
 use lib.ListN.{length, getD}
-use lib.Signed.{shrZ}
-use Rattle.integers.specs.Table.{table}
-use Rattle.ring.specs.Element.{component}
-use Rattle.dct.specs.Inverse.{step-back}
-use Rattle.dct.specs.Limits.{places}
+use Rattle.ring.specs.Element.{component, cosine, mul}
+use Rattle.dct.specs.Inverse.{number-back, known-frequency, known-component}
+use Rattle.dct.specs.Limits.{components-size, magnitudes-limit, places}
 use Rattle.elements.specs.declared.Element.{Element}
-use Rattle.elements.specs.Buffer.{entry}
-use Rattle.number_step_back.specs.Half.{Halves}
+use Rattle.elements.specs.Buffer.{element-at, entry, row}
+use Rattle.elements.specs.Bound.{bits}
+use Rattle.element_rows.specs.Room.{Room}
 use Rattle.transform.specs.Forward.{elements-of}
-use Rattle.transform.specs.Rows.{row}
 
--- an element whose components are divided by 16, rounded down
-unfoldable pub sixteenth : List ℤ → List ℤ
-sixteenth a = table 8 (λ k. shrZ (component a k) 16)
+-- the numbers of the elements that the passes read: they stand in the rows 0 to 4
+abbrev pub read-size : ℕ
+read-size = 8 * (8 * 5)
 
--- element n of the row whose 8-point step is the row e, if there is one (`row-inverse` of `dct`)
-unfoldable pub row-back : (ℕ → List ℤ) → ℕ → List ℤ
-row-back e n = sixteenth (step-back e n)
+-- 512 numbers, and none of these is above the limit of an element's magnitudes
+pub record Limited (e : List ℤ) : Type 0 where
+  pub size : length e ≡ components-size
+  pub in-limit : (i : ℕ) → i < read-size → natAbs (getD e i (pos 0)) ≤ magnitudes-limit
 
--- number i of row j of eight rows of numbers
-abbrev pub at : List (List ℤ) → ℕ → ℕ → ℤ
-at l j i = getD (getD l j []) i (pos 0)
+-- for a block's elements: 16 times known component k of what the step makes of column n
+unfoldable pub known-row : List ℤ → ℕ → ℕ → ℤ
+known-row e k n = number-back (λ v. mul (cosine (pos (known-component k))) (element-at e (8 * known-frequency k + v))) n
 
--- row j of l has, for each place, half of component 0 of what the transpose of the step makes of column j of the rows x
-pub record ColumnsBack (x : List (List Element)) (l : List (List ℤ)) : Type 0 where
-  pub column : (j : ℕ) → j < 8 → Halves 8 30 (step-back (λ u. entry (row x u) j)) (getD l j [])
+-- the whole number u_0 of element 0 of a row, and those of the elements 1, c and d, i, j and k times
+abbrev pub four-terms : (ℕ → ℤ) → ℤ → ℕ → ℤ → ℕ → ℤ → ℤ
+four-terms y i c j d k = (((pos 1 *ℤ y 0) +ℤ (i *ℤ y 1)) +ℤ (j *ℤ y c)) +ℤ (k *ℤ y d)
+
+-- the whole numbers u_0 of a row
+abbrev pub numbers : List Element → ℕ → ℤ
+numbers row k = component (entry row k) 0
+
+-- no number of eight rows needs more than 27 bits
+pub record Numbers (x : List (List Element)) : Type 0 where
+  pub rooms : (k : ℕ) → k < 8 → Room 8 (bits 27) (row x k)
 
 -- y is the block that has the elements e, if there is one
 pub record Restores (e y : List ℤ) : Type 0 where

@@ -1,132 +1,150 @@
 // The passes of the way back: the block that has given elements, if there is one.
 //
-// The work goes by rows, then columns, and undoes forward's steps: the transpose of the 8-point step takes the step of a row to 16 times that
-// row (`row-inverse`), so each pass divides by 16. For the elements of a block both divisions are exact, and the block is restored
-// (`Restores`). For any others they round down, and what comes out is no block that has them.
+// The work goes by rows, then columns, and undoes forward's steps, as far as a block is known by: a column is known by c_4 of its frequencies 0 and 4,
+// c_2 and c_6 of 2, and c_1, c_3, c_5, c_7 of 1 (`column-restored`), so that the rows 0, 4, 2 and 1 of the elements suffice. Component k of what
+// the transpose of the step makes of a row is half of component 0 of what it makes of c_k times that row, and `number_step_back` makes these halves.
+// Then each sample is a sum of four of them. For the elements of a block all this is 128 times the samples (`Restores`); for any others something
+// comes out that does not have them.
 //
-// The rows take the whole transpose, which is factorised as the step is. The columns take component 0 of it alone, because samples are whole
-// numbers: `number_step_back` makes the halves of these components, without a product, and they are divided by 8.
-//
-// 32 bits suffice: a pass lets components grow sixteenfold at most, and then divides by 16, so that none is above the limit of cause 4 when a
-// pass begins (`small-row-back`); a pass could take 27 bits.
+// 32 bits suffice: c_k doubles what the limit allows, the transpose adds three bits, and the sums three more.
 ghost use mathlib.Core.Path.{_≡_};
-ghost use Prim.Native.Nat.{_%_, _*_, _+_, _/_, _<_};
+ghost use Prim.Native.Nat.{_%_, _*_, _+_, _/_, _<_, _≤_};
+ghost use lib.IntN.{natAbs};
 ghost use lib.ListN.{length};
 ghost use lib.Signed.{shrZ};
-ghost use Rattle.integers.specs.Table.{table};
+ghost use Rattle.integers.specs.Table.{PartStored};
+ghost use Rattle.ring.specs.Element as ring;
+ghost use Rattle.dct.specs.Inverse.{weighted};
 ghost use Rattle.dct.specs.Limits.{components-size, places};
-ghost use Rattle.elements.specs.Buffer.{Row, element-at, entry};
-ghost use Rattle.step.specs.Room.{Room};
-ghost use Rattle.transform.specs.Rows.{Rooms, Rows};
-ghost use Rattle.accepted_sets.specs.Sets.{AcceptedSet};
+ghost use Rattle.elements.specs.Bound.{bits, headroom};
+ghost use Rattle.elements.specs.Buffer.{Row, Rows, element-at, entry, row};
+ghost use Rattle.element_rows.specs.Room.{Room};
 ghost use Rattle.passes_back.specs.Passes as passes;
+use element_rows::across;
+use element_rows::multiple;
+use element_rows::times_half;
 use elements::Element;
 use elements::PLACES;
+use elements::add_four;
+use elements::component;
 use elements::element_at;
-use elements::only;
+use number_step::join;
 use number_step_back::number_step_back;
-use step_back::step_back;
 
-// An element's components divided by 16: `>>` on an i32 rounds down.
-fn sixteenth(a: Element) -> Element
-    ensures { λ r. ⌜ r .components ≡ passes.sixteenth (a .components) ⌝ }
-{
-    let u = a.components;
-    let mut r = [0i32; 8];
-    let mut k = 0;
-    while k < 8 {
-        r[k] = u[k] >> 4;
-        k += 1;
-    }
-    Element { components: r }
-}
+// The numbers of the elements that are read, which stand in the rows 0 to 4.
+pub const READ_SIZE: usize = 320;
 
-// The row whose step is x, if there is one.
-fn row_back(x: [Element; 8]) -> [Element; 8]
-    requires { ⌜ Room 8 27 x ⌝ }
-    ensures { λ r. ⌜ Row 8 (passes.row-back (entry x)) r ⌝ }
-{
-    let y = step_back(x);
-    let mut r = y;
-    let mut n = 0;
-    while n < 8 {
-        r[n] = sixteenth(y[n]);
-        n += 1;
-    }
-    r
-}
-
-// Row u of the elements in a buffer.
-fn row_of(elements: &[i32], u: usize) -> [Element; 8]
+// The elements p, p+2, p+4 and p+6: half of a row.
+fn half_of(elements: &[i32], p: usize) -> [Element; 4]
     requires { ⌜ length (now elements) ≡ components-size ⌝ }
-    requires { ⌜ u < 8 ⌝ }
-    ensures { λ r. ⌜ Row 8 (λ v. element-at (now (elements .entry)) (8 * u + v)) r ⌝ }
+    requires { ⌜ p + 6 < places ⌝ }
+    ensures { λ r. ⌜ Row 4 (λ i. element-at (now (elements .entry)) (p + 2 * i)) r ⌝ }
 {
-    let zero = only(0, 0);
-    let mut r = [zero; 8];
-    let mut v = 0;
-    while v < 8 {
-        r[v] = element_at(elements, 8 * u + v);
-        v += 1;
-    }
-    r
+    let e0 = element_at(elements, p);
+    let e1 = element_at(elements, p + 2);
+    let e2 = element_at(elements, p + 4);
+    let e3 = element_at(elements, p + 6);
+    [e0, e1, e2, e3]
 }
 
-// Each row of the elements in a buffer so.
+// The eight components by which the columns are known, 16 times each.
 fn rows_back(elements: &[i32]) -> [[Element; 8]; 8]
-    requires { ⌜ AcceptedSet (now elements) ⌝ }
-    ensures { λ r. ⌜ Rows (λ u. passes.row-back (λ v. element-at (now (elements .entry)) (8 * u + v))) r ⌝ }
+    requires { ⌜ passes.Limited (now elements) ⌝ }
+    ensures { λ r. ⌜ Rows (λ k n. ring.number (passes.known-row (now (elements .entry)) k n)) r ⌝ }
 {
-    let zero = only(0, 0);
-    let mut r = [[zero; 8]; 8];
-    let mut u = 0;
-    while u < 8 {
-        r[u] = row_back(row_of(elements, u));
-        u += 1;
-    }
-    r
+    let e0 = half_of(elements, 0);
+    let o0 = half_of(elements, 1);
+    let e1 = half_of(elements, 8);
+    let o1 = half_of(elements, 9);
+    let e2 = half_of(elements, 16);
+    let o2 = half_of(elements, 17);
+    let e4 = half_of(elements, 32);
+    let o4 = half_of(elements, 33);
+    [
+        number_step_back(join(times_half(e0, 4), times_half(o0, 4))),
+        number_step_back(join(times_half(e4, 4), times_half(o4, 4))),
+        number_step_back(join(times_half(e2, 2), times_half(o2, 2))),
+        number_step_back(join(times_half(e2, 6), times_half(o2, 6))),
+        number_step_back(join(times_half(e1, 1), times_half(o1, 1))),
+        number_step_back(join(times_half(e1, 3), times_half(o1, 3))),
+        number_step_back(join(times_half(e1, 5), times_half(o1, 5))),
+        number_step_back(join(times_half(e1, 7), times_half(o1, 7))),
+    ]
 }
 
-// Component 0 of each column so, halved and not yet divided. The columns stand as rows.
-fn columns_back(x: [[Element; 8]; 8]) -> [[i32; 8]; 8]
-    requires { ⌜ Rooms 27 x ⌝ }
-    ensures { λ r. ⌜ passes.ColumnsBack x r ⌝ }
+// The whole number of x[0], and those of x[1], x[c] and x[d], i, j and k times.
+fn four_terms(x: [Element; 8], i: i32, c: usize, j: i32, d: usize, k: i32) -> Element
+    requires { ⌜ Room 8 (bits 27) x ⌝ }
+    requires { ⌜ natAbs i ≤ 1 ⌝ }
+    requires { ⌜ c < 8 ⌝ }
+    requires { ⌜ natAbs j ≤ 2 ⌝ }
+    requires { ⌜ d < 8 ⌝ }
+    requires { ⌜ natAbs k ≤ 4 ⌝ }
+    ensures { λ r. ⌜ r .components ≡ ring.number (passes.four-terms (passes.numbers x) i c j d k) ⌝ }
 {
-    let mut r = [[0i32; 8]; 8];
-    let mut j = 0;
-    while j < 8 {
-        r[j] = number_step_back([
-            x[0][j],
-            x[1][j],
-            x[2][j],
-            x[3][j],
-            x[4][j],
-            x[5][j],
-            x[6][j],
-            x[7][j],
-        ]);
-        j += 1;
-    }
-    r
+    add_four(
+        multiple(x[0], 1),
+        multiple(x[1], i),
+        multiple(x[c], j),
+        multiple(x[d], k),
+    )
 }
 
-// The samples of a block whose columns stand as rows: 16 times a sample was halved, and is divided by 8.
-fn samples_of(x: [[i32; 8]; 8]) -> [i32; 64]
-    ensures { λ r. ⌜ r ≡ table places (λ n. shrZ (passes.at x (n % 8) (n / 8)) 8) ⌝ }
+// A column from the components by which it is known.
+fn column_back(x: [Element; 8]) -> [Element; 8]
+    requires { ⌜ Room 8 (bits 27) x ⌝ }
+    ensures { λ r. ⌜ Row 8 (λ n. ring.number (weighted (passes.numbers x) n)) r ⌝ }
 {
-    let mut r = [0i32; 64];
-    let mut n = 0;
-    while n < PLACES {
-        r[n] = x[n % 8][n / 8] >> 3;
-        n += 1;
+    let r0 = four_terms(x, 1, 2, 2, 4, 4);
+    let r1 = four_terms(x, -1, 3, 2, 5, 4);
+    let r2 = four_terms(x, -1, 3, -2, 6, 4);
+    let r3 = four_terms(x, 1, 2, -2, 7, 4);
+    let r4 = four_terms(x, 1, 2, -2, 7, -4);
+    let r5 = four_terms(x, -1, 3, -2, 6, -4);
+    let r6 = four_terms(x, -1, 3, 2, 5, -4);
+    let r7 = four_terms(x, 1, 2, 2, 4, -4);
+    [r0, r1, r2, r3, r4, r5, r6, r7]
+}
+
+// The numbers of a row into column j of a block, divided by 128: `>>` on an i32 rounds down.
+fn store_column(y: [Element; 8], j: usize, block: &mut [i32])
+    requires { ⌜ Room 8 headroom y ⌝ }
+    requires { ⌜ j < 8 ⌝ }
+    requires { ⌜ length (now block) ≡ places ⌝ }
+    ensures { λ r. ⌜ PartStored (λ n. n % 8) j (λ n. shrZ (passes.numbers y (n / 8)) 128) (now (block .entry)) (now (block .exit)) ⌝ }
+{
+    let mut i = 0;
+    while i < 8 {
+        let z = component(y[i], 0);
+        block[8 * i + j] = z >> 7;
+        i += 1;
     }
-    r
+}
+
+// Column j of a block from what stands at place j of eight rows.
+fn restore_column(x: [[Element; 8]; 8], j: usize, block: &mut [i32])
+    requires { ⌜ passes.Numbers x ⌝ }
+    requires { ⌜ j < 8 ⌝ }
+    requires { ⌜ length (now block) ≡ places ⌝ }
+    ensures { λ r. ⌜ PartStored (λ n. n % 8) j (λ n. shrZ (weighted (λ k. ring.component (entry (row x k) j) 0) (n / 8)) 128) (now (block .entry)) (now (block .exit)) ⌝ }
+{
+    store_column(column_back(across(x, j)), j, block);
 }
 
 // The block that has these elements, if there is one. If there is none, nothing is promised of what is returned.
 pub fn restored(elements: &[i32]) -> [i32; 64]
-    requires { ⌜ AcceptedSet (now elements) ⌝ }
+    requires { ⌜ passes.Limited (now elements) ⌝ }
     ensures { λ r. ⌜ passes.Restores (now (elements .entry)) r ⌝ }
 {
-    samples_of(columns_back(rows_back(elements)))
+    let x = rows_back(elements);
+    let mut block = [0i32; PLACES];
+    restore_column(x, 0, &mut block);
+    restore_column(x, 1, &mut block);
+    restore_column(x, 2, &mut block);
+    restore_column(x, 3, &mut block);
+    restore_column(x, 4, &mut block);
+    restore_column(x, 5, &mut block);
+    restore_column(x, 6, &mut block);
+    restore_column(x, 7, &mut block);
+    block
 }

@@ -6,3 +6,5 @@ pub mod Forms
 pub mod Magnitude
 pub mod Ring
 pub mod Cosines
+pub mod Conjugates
+pub mod Dots

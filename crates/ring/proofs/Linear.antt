@@ -71,6 +71,13 @@ linear-scale s = record {
   multiples = λ t a. scale-scale s t a ∙ ap (λ (u : ℤ). scale u a) (*ℤ-comm s t) ∙ sym (scale-scale t s a);
 }
 
+pub linear-after : {L M : List ℤ → List ℤ} → LinearMap L → LinearMap M → LinearMap (λ a. L (M a))
+linear-after {L} {M} l m = record {
+  nil = ap L (m .nil) ∙ l .nil;
+  sums = λ a b. ap L (m .sums a b) ∙ l .sums (M a) (M b);
+  multiples = λ s a. ap L (m .multiples s a) ∙ l .multiples s (M a);
+}
+
 -- a linear map goes through a sum, and through a combination
 pub linear-sum : (L : List ℤ → List ℤ) → LinearMap L → (n : ℕ) (f : ℕ → List ℤ) → L (sum [] add n f) ≡ sum [] add n (λ k. L (f k))
 linear-sum L l n f = sum-map [] add [] add L (l .nil) (l .sums) n f

@@ -23,14 +23,14 @@ pub sizes-le : (n : ℕ) (a : List ℤ) → sizes a n ≤ magnitudes a
 unfolding sum
 sizes-le zero a = omega arith
 sizes-le (suc n) [] = omega (arith, sizes-le n [])
-sizes-le (suc n) (x ∷ a) = omega (arith, sum-first n (λ k. natAbs (component (x ∷ a) k)), sizes-le n a)
+sizes-le (suc n) (x ∷ a) = omega (arith, sum-first 0 _+_ naturals n (λ k. natAbs (component (x ∷ a) k)), sizes-le n a)
 
 pub sizes-all : (n : ℕ) (a : List ℤ) → length a ≡ n → sizes a n ≡ magnitudes a
 unfolding sum
 sizes-all zero [] e = refl
 sizes-all zero (x ∷ a) e = absurd (omega arith)
 sizes-all (suc n) [] e = absurd (omega arith)
-sizes-all (suc n) (x ∷ a) e = omega (arith, sum-first n (λ k. natAbs (component (x ∷ a) k)), sizes-all n a (omega arith))
+sizes-all (suc n) (x ∷ a) e = omega (arith, sum-first 0 _+_ naturals n (λ k. natAbs (component (x ∷ a) k)), sizes-all n a (omega arith))
 
 pub component-le : (a : List ℤ) (k : ℕ) → natAbs (component a k) ≤ magnitudes a
 unfolding sum
@@ -89,7 +89,7 @@ module _ (φ : List ℤ → ℤ) (l : LinearForm φ) (B C : ℕ) where
   form-combine f [] h = rw (l .nil) zero-le
   form-combine f (x ∷ a) h =
       let rest = combine (λ k. f (suc k)) a in
-      rw (l .sums (scale x (f zero)) rest, l .multiples x (f zero), sum-first (length a) (λ k. natAbs (φ (f k))))
+      rw (l .sums (scale x (f zero)) rest, l .multiples x (f zero), sum-first 0 _+_ naturals (length a) (λ k. natAbs (φ (f k))))
       (omega (
         arith,
         natAbs-add (x *ℤ φ (f zero)) (φ rest),

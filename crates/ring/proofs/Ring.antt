@@ -1,8 +1,8 @@
 -- 0, 1 and the whole numbers among the elements. `Linear` and `Product` have the ring's other laws, for lists of any length; those that
 -- name 0 or 1 hold of elements with all of their components.
 -- Assumes nothing.
-use mathlib.Core.Path.{_≡_, sym, ap, _∙_}
-use mathlib.Core.Bool.{Bool}
+use mathlib.Core.Path.{_≡_, refl, sym, ap, _∙_}
+use mathlib.Core.Bool.{Bool, true, false, cond}
 use mathlib.Core.List.{List}
 use Prim.Native.Nat.{ℕ}
 use lib.Dec.{T}
@@ -44,8 +44,15 @@ negative-of {a} {b} p q e =
     sym (add-zero p) ∙ add-comm (number (pos 0)) a ∙ ap (add a) (sym (add-negative q)) ∙ sym (add-assoc a b n) ∙ ap (λ x. add x n) e
     ∙ add-zero (eight-scale (negsuc 0) q)
 
+times-cond : (s t : ℤ) (b : Bool) → s *ℤ cond b t (pos 0) ≡ cond b (s *ℤ t) (pos 0)
+times-cond s t true = refl
+times-cond s t false = *ℤ-zero s
+
+pub scale-only : (s t : ℤ) (k : ℕ) → scale s (only t k) ≡ only (s *ℤ t) k
+scale-only s t k = simp times-cond
+
 pub scale-number : (s t : ℤ) → scale s (number t) ≡ number (s *ℤ t)
-scale-number s t = simp *ℤ-zero
+scale-number s t = scale-only s t 0
 
 -- a whole number as a factor is a multiple
 pub mul-number : (s : ℤ) {a : List ℤ} → Eight a → mul (number s) a ≡ scale s a

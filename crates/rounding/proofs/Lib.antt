@@ -1,6 +1,7 @@
--- The table numbers, what fits where, the code's own sums, the causes of a refusal, and which calls are accepted.
+-- The table numbers, what fits where, the halves that are 0, the code's own sums, the causes of a refusal, and which calls are accepted.
 pub mod Tables
 pub mod Sizes
+pub mod Halves
 pub mod Steps
 pub mod Causes
 pub mod Blocks

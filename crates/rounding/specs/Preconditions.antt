@@ -1,11 +1,11 @@
 -- What the functions behind `round` ask: that its causes of refusal were ruled out.
 use mathlib.Core.Path.{_≡_}
 use mathlib.Core.List.{List}
-use Prim.Native.Nat.{ℕ, _≤_}
+use Prim.Native.Nat.{ℕ, _%_, _≤_, _<_}
 use lib.Dec.{T}
-use lib.IntN.{ℤ}
+use lib.IntN.{ℤ, pos}
 use lib.ListN.{length}
-use Rattle.ring.specs.Element.{magnitudes}
+use Rattle.ring.specs.Element.{component, magnitudes}
 use Rattle.dct.specs.Limits.{places, magnitudes-limit}
 use Rattle.accepted_sets.specs.Sets.{AcceptedSet}
 use Rattle.rounding.specs.Tables.{width, numbers}
@@ -15,6 +15,16 @@ pub record Allowed (b : ℕ) (m u : List ℤ) : Type 0 where
   pub at-width : T (width b)
   pub are-numbers : m ≡ numbers b
   pub in-limit : magnitudes u ≤ magnitudes-limit
+
+-- the components of u besides u_0 whose indices have the remainder h by 2 are 0
+pub record HalfZero (h : ℕ) (u : List ℤ) : Type 0 where
+  pub at : (k : ℕ) → 0 < k → k % 2 ≡ h → component u k ≡ pos 0
+
+-- for a sum of the terms of N from a first one on, in steps: the terms that it passes over are 0
+pub data Terms (u : List ℤ) : ℕ → ℕ → Type 0 where
+  all : Terms u 0 1
+  odds : HalfZero 0 u → Terms u 0 2
+  evens : HalfZero 1 u → Terms u 1 2
 
 -- for all 64: the elements are an accepted set, there is room for 64 coefficients, and b is a width
 pub record Ready (elements : List ℤ) (b : ℕ) (coefficients : List ℤ) : Type 0 where

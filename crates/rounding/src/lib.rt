@@ -7,6 +7,7 @@
 // magnitudes. In an accepted set that sum is at most 2^18, and b is at most 26: no sum or product here is above 2^46. In 32 bits the
 // products would wrap at b = 20.
 ghost use mathlib.Core.Path.{_≡_};
+ghost use mathlib.Core.Bool.{false};
 ghost use Prim.Native.Nat.{_^_, _<_};
 ghost use lib.Dec.{T};
 ghost use lib.IntN.{pos, _+ℤ_, _*ℤ_};
@@ -14,7 +15,7 @@ ghost use mir.Syntax.{w64};
 ghost use mir.Val.{SFits};
 ghost use Rattle.cuts.specs.Width as cuts;
 ghost use Rattle.answers.specs.Answer.{returned, accepted};
-ghost use Rattle.rounding.specs.Preconditions.{Allowed, Ready};
+ghost use Rattle.rounding.specs.Preconditions.{Allowed, HalfZero, Ready, Terms};
 ghost use Rattle.rounding.specs.Rounding.{AllNear, coefficients-of, round-coefficients, round-returned};
 ghost use Rattle.rounding.specs.Tables as tables;
 use accepted_sets::first_above_limit;
@@ -84,19 +85,50 @@ fn plus_product(s: i64, x: i64, y: i32) -> i64
     s + x * wide
 }
 
-// N = 2^b·u_0 + m_1·u_1 + ... + m_7·u_7, for the table numbers at b.
-fn numerator(u: Element, b: u32, numbers: [i64; 7]) -> i64
+// Whether a component of u is not 0, of those besides u_0 whose index is even for h = 0 and odd for h = 1.
+fn half_used(u: Element, h: usize) -> bool
+    requires { ⌜ h < 2 ⌝ }
+    ensures { λ r. ⌜ (r ≡ false → HalfZero h (u .components)) ⌝ }
+{
+    let a = u.components;
+    let mut r = false;
+    let mut k = 2 - h;
+    while k < 8 {
+        r = r | (a[k] != 0);
+        k += 2;
+    }
+    r
+}
+
+// N, of which the terms from m_(first+1) on are summed in steps, and the others are 0.
+fn sum_of_terms(u: Element, b: u32, numbers: [i64; 7], first: usize, step: usize) -> i64
     requires { ⌜ Allowed b numbers (u .components) ⌝ }
+    requires { ⌜ Terms (u .components) first step ⌝ }
     ensures { λ r. ⌜ r ≡ cuts.numerator b numbers (u .components) ⌝ }
 {
     let a = u.components;
     let mut n = plus_product(0, power_of_two(b), a[0]);
-    let mut k = 0;
+    let mut k = first;
     while k < 7 {
         n = plus_product(n, numbers[k], a[k + 1]);
-        k += 1;
+        k += step;
     }
     n
+}
+
+// N = 2^b·u_0 + m_1·u_1 + ... + m_7·u_7, for the table numbers at b. Of each element of a block's set one half is 0, which
+// saves its products.
+fn numerator(u: Element, b: u32, numbers: [i64; 7]) -> i64
+    requires { ⌜ Allowed b numbers (u .components) ⌝ }
+    ensures { λ r. ⌜ r ≡ cuts.numerator b numbers (u .components) ⌝ }
+{
+    if !half_used(u, 0) {
+        return sum_of_terms(u, b, numbers, 0, 2);
+    }
+    if !half_used(u, 1) {
+        return sum_of_terms(u, b, numbers, 1, 2);
+    }
+    sum_of_terms(u, b, numbers, 0, 1)
 }
 
 // (N + 2^b) divided by 2^(b+1), rounded down: `>>` on an i64 rounds down.
@@ -111,7 +143,7 @@ fn coefficient(u: Element, b: u32, numbers: [i64; 7]) -> i32
 }
 
 // Every coefficient of an accepted set.
-fn fill(elements: &[i32], b: u32, coefficients: &mut [i32])
+pub fn fill(elements: &[i32], b: u32, coefficients: &mut [i32])
     requires { ⌜ Ready (now elements) b (now coefficients) ⌝ }
     ensures { λ r. ⌜ now (coefficients .exit) ≡ coefficients-of b (now (elements .entry)) ⌝ }
 {

@@ -1,6 +1,6 @@
 -- The samples of a sheet that was checked are in range, and the coefficients of its blocks are such as words can hold.
 -- Assumes nothing.
-use mathlib.Core.Path.{_≡_, _∙_}
+use mathlib.Core.Path.{_≡_}
 use mathlib.Core.List.{List}
 use Prim.Native.Nat.{ℕ, _+_, _*_, _<_}
 use native.Mathlib.Nat.{lt-of-le-of-lt}
@@ -9,13 +9,12 @@ use lib.Dec.{T, lit<}
 use lib.IntN.{ℤ, pos}
 use lib.ListN.{length}
 use Rattle.integers.proofs.Tables.{getD-table, length-table}
-use Rattle.dct.specs.Limits.{places, components-size}
-use Rattle.transform.specs.Forward.{AllInRange, elements-of, forward-elements}
-use Rattle.transform.proofs.Refusals.{accepts, accepted-leaves}
+use Rattle.dct.specs.Limits.{places}
+use Rattle.transform.specs.Forward.{AllInRange, elements-of}
 use Rattle.accepted_sets.proofs.BlockSets.{block-set}
-use Rattle.rounding.specs.Rounding.{round-coefficients}
+use Rattle.rounding.specs.Preconditions.{Ready}
 use Rattle.rounding.specs.Tables.{width}
-use Rattle.rounding.proofs.Blocks.{coefficient-size, block-accepted}
+use Rattle.rounding.proofs.Blocks.{coefficient-size}
 use Rattle.words.specs.Word.{payload, value}
 use Rattle.sheet_checks.specs.Check.{word-at, blocks}
 use Rattle.sheet_blocks.specs.Preconditions.{Checked, Fit}
@@ -39,17 +38,11 @@ module _ {words : List ℕ} {b s o : ℕ} (C : Checked words b s o) (k : ℕ) (h
   block-fit =
       record { small = λ i l. lt-of-le-of-lt (coefficient-size b (block-set (block words k) block-range) (C .at-width) i l) (lit< tt) }
 
--- what forward and rounding leave of a block whose samples are in range
+-- what the cores of forward and of rounding ask of a block whose samples are in range
 
-module _ (words : List ℕ) (k : ℕ) (range : AllInRange (block words k)) where
-  pub forward-leaves : {x left : List ℤ} (e : List ℤ) → x ≡ block words k → length e ≡ components-size → left ≡ forward-elements x e
-      → left ≡ elements-of (block words k)
-  unfolding block
-  forward-leaves {x} e same l was =
-      let size = length-table places (λ i. value (payload (word-at words (1 + places * k + i)))) in
-      rw (was, same) (accepted-leaves (block words k) e (rw (accepts (block words k) e size l range) tt))
+pub block-length : (words : List ℕ) (k : ℕ) → length (block words k) ≡ places
+unfolding block
+block-length words k = length-table places (λ i. value (payload (word-at words (1 + places * k + i))))
 
-  pub round-leaves : {e left : List ℤ} (b : ℕ) (c : List ℤ) → T (width b) → e ≡ elements-of (block words k) → length c ≡ places
-      → left ≡ round-coefficients e b c → left ≡ block-coefficients b words k
-  unfolding block-coefficients round-coefficients
-  round-leaves {e} b c w same l was = was ∙ rw (same, block-accepted (block words k) range b w c l)
+pub block-ready : {x e c : List ℤ} {b : ℕ} → AllInRange x → e ≡ elements-of x → length c ≡ places → T (width b) → Ready e b c
+block-ready {x} range same l w = record { ready-set = rw same (block-set x range); coefficients-length = l; ready-width = w }

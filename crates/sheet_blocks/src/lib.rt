@@ -1,6 +1,7 @@
 // The blocks of a sheet (01, "Sheets"): the coefficient sheet of a sample sheet in which everything was found right.
 //
-// Block after block goes by way of `forward` and `round`, whose contracts say what it becomes. What the loop carries is a record by value.
+// Block after block goes by way of the cores of `forward` and `round`, which check nothing: the check of the sheet gives what they ask. What the
+// loop carries is a record by value.
 ghost use mathlib.Core.Path.{_≡_};
 ghost use Prim.Native.Nat.{_*_, _+_, _-_, _<_, _≤_};
 ghost use lib.Dec.{T};
@@ -13,8 +14,8 @@ ghost use Rattle.sheet_checks.specs.Check.{blocks};
 ghost use Rattle.sheet_blocks.specs.Blocks as sheet;
 ghost use Rattle.sheet_blocks.specs.Preconditions.{Advanced, Checked, Fit};
 use elements::PLACES;
-use rounding::round;
-use transform::forward;
+use rounding::fill;
+use transform::transform;
 use words::COEFFICIENT;
 use words::COEFFICIENT_HEAD;
 use words::payload;
@@ -64,9 +65,9 @@ fn coefficients(words: &[u32], k: usize, b: u32, scratch: &mut [i32]) -> [i32; 6
     ensures { λ r. ⌜ r ≡ sheet.block-coefficients b (now (words .entry)) k ⌝ }
     ensures { λ r. ⌜ now (scratch .exit) ≡ elements-of (sheet.block (now (words .entry)) k) ⌝ }
 {
-    forward(&block(words, k), scratch);
+    transform(&block(words, k), scratch);
     let mut coefficients = [0i32; PLACES];
-    round(scratch, b, &mut coefficients);
+    fill(scratch, b, &mut coefficients);
     coefficients
 }
 

@@ -6,7 +6,7 @@ use mathlib.Core.List.{List}
 use Prim.Native.Nat.{ℕ, zero, suc, _+_, _<_}
 use native.Mathlib.Nat.{le-refl}
 use native.Mathlib.Omega.{arith}
-use lib.Dec.{T, eqb, ltb, eqb-refl}
+use lib.Dec.{T, eqb, eqb-refl}
 use lib.IntN.{ℤ}
 use lib.ListN.{length}
 use lib.Signed.{ltZ}
@@ -14,10 +14,11 @@ use mir.Syntax.{w32}
 use mir.Val.{SFits, ofZ, toZ}
 use mir.ValLaws.{toZ-ofZ}
 use borrow.Author.Tests.{eq-eqb, ne-eqb, lt-ltb, le-ltb}
-use Rattle.integers.proofs.Search.{Passed, passed-none, passed-more, first-at, first-none}
+use Rattle.integers.specs.Search.{any}
+use Rattle.integers.proofs.Search.{Passed, passed-none, passed-more, first-at, first-none, Asked, asked-none, asked-more}
 use Rattle.words.specs.Word.{end-kind, kind, payload, value}
 use Rattle.sheet_checks.specs.declared.Format.{Format}
-use Rattle.sheet_checks.specs.Check.{Searched, names-word, word-at, blocks, body-cause, end-cause, cause-at, contents}
+use Rattle.sheet_checks.specs.Check.{Searched, names-word, word-at, blocks, body-cause, end-cause, cause-at, faulty, contents}
 
 -- the cause of a word of the body, by the code's tests
 module _ (f : Format) (w : ℕ) where
@@ -40,9 +41,6 @@ module _ (f : Format) (w : ℕ) where
     no-fault t = rw (eq-eqb (kind w) (f .body) e, ← read, t)
 
 module _ (f : Format) (words : List ℕ) where
-  abbrev faulty : ℕ → Bool
-  faulty i = ltb 0 (cause-at f words i)
-
   abbrev known : ℕ → Bool
   known cause = eqb cause 0 || names-word f cause
 
@@ -82,18 +80,28 @@ module _ (f : Format) (words : List ℕ) where
 
   -- the search
 
-  pub head-passed : 1 < length words → Passed (length words) faulty 1
+  pub head-passed : 1 < length words → Passed (length words) (faulty f words) 1
   unfolding cause-at
   head-passed h = passed-more (omega arith) passed-none refl
 
-  pub body-passed : {i : ℕ} → 0 < i → suc i < length words → Passed (length words) faulty i → 0 ≡ body-cause f (word-at words i) → Passed (length words) faulty (i + 1)
+  pub body-passed : {i : ℕ} → 0 < i → suc i < length words → Passed (length words) (faulty f words) i → 0 ≡ body-cause f (word-at words i) → Passed (length words) (faulty f words) (i + 1)
   body-passed {i} h l P e = passed-more (omega arith) P (rw (cause-body i h l, ← e) refl)
 
   -- the search ends at i with the cause c of that word: it is the first fault, or, at the last word, there may be none
-  pub ends : (i c : ℕ) → i < length words → Passed (length words) faulty i → c ≡ cause-at f words i → (c ≡ 0 → suc i ≡ length words) → Searched f words c i
+  pub ends : (i c : ℕ) → i < length words → Passed (length words) (faulty f words) i → c ≡ cause-at f words i → (c ≡ 0 → suc i ≡ length words) → Searched f words c i
   unfolding contents
   ends i zero l P e none =
       let last : i + 1 ≡ length words = omega (arith, none refl) in
-      record { cause-known = tt; is = λ next. rw (first-none (length words) faulty (rw last at (passed-more l P (rw (← e) refl))), le-ltb (length words) (length words) (le-refl (length words))) }
+      record { cause-known = tt; is = λ next. rw (first-none (length words) (faulty f words) (rw last at (passed-more l P (rw (← e) refl))), le-ltb (length words) (length words) (le-refl (length words))) }
   ends i (suc c) l P e none =
-      record { cause-known = rw e (cause-known i); is = λ next. rw (first-at (length words) faulty i l P (rw (← e) (lt-ltb 0 (suc c) (omega arith))), lt-ltb i (length words) l, ← e, ne-eqb (suc c) 0 (λ z. omega arith)) }
+      record { cause-known = rw e (cause-known i); is = λ next. rw (first-at (length words) (faulty f words) i l P (rw (← e) (lt-ltb 0 (suc c) (omega arith))), lt-ltb i (length words) l, ← e, ne-eqb (suc c) 0 (λ z. omega arith)) }
+
+  -- without an early exit
+
+  pub head-asked : 1 < length words → Asked (length words) (faulty f words) 1 false
+  unfolding cause-at
+  head-asked h = asked-more (omega arith) asked-none refl
+
+  pub none-found : any (length words) (faulty f words) ≡ false → (i : ℕ) → Searched f words 0 i
+  unfolding contents
+  none-found e i = record { cause-known = tt; is = λ next. rw e }

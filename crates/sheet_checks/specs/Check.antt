@@ -65,6 +65,10 @@ cause-at f words i =
     cond (eqb i 0) 0
     (cond (eqb (suc i) (length words)) (end-cause (blocks words) (word-at words i)) (body-cause f (word-at words i)))
 
+-- whether it has a fault
+abbrev pub faulty : Format → List ℕ → ℕ → Bool
+faulty f words i = ltb 0 (cause-at f words i)
+
 -- "then the first faulty word"
 unfoldable pub contents : Format → List ℕ → Returned → Returned
 contents f words next = lowest-cause (length words) (cause-at f words) next

@@ -1,17 +1,16 @@
 -- The ways out of the forward job, over plain variables: what it returns, and what it leaves.
 -- Assumes nothing.
-use mathlib.Core.Path.{_≡_, ap}
-use mathlib.Core.Bool.{Bool, not, _&&_}
+use mathlib.Core.Path.{_≡_, sym, ap, _∙_}
+use mathlib.Core.Bool.{Bool, true, false, not, _&&_}
 use mathlib.Core.List.{List}
-use Prim.Native.Nat.{ℕ, _≤_, _<_}
-use native.Mathlib.Omega.{arith}
+use Prim.Native.Nat.{ℕ}
 use lib.Dec.{T, eqb, eqb→eq}
 use lib.IntN.{ℤ}
 use lib.ListN.{length}
 use mir.Facts.{and-yes}
-use borrow.Author.Tests.{eq-eqb, ne-eqb, lt-ltb, le-ltb, not-false}
-use Rattle.integers.specs.Search.{first}
-use Rattle.integers.proofs.Search.{before-first}
+use borrow.Author.Tests.{eq-eqb, ne-eqb, not-false}
+use Rattle.integers.specs.Search.{first, any}
+use Rattle.integers.proofs.Search.{any-none}
 use Rattle.dct.specs.Limits.{places, components-size, in-range}
 use Rattle.answers.specs.Answer.{Returned, lowest, accept, accepted}
 use Rattle.answers.proofs.Accepted.{lowest-passes, unless-accepted, lowest-accepted, accepted-written}
@@ -35,23 +34,24 @@ module _ (x e : List ℤ) where
     wrong-elements n =
         (rw (eq-eqb (length x) places s, ne-eqb (length e) components-size n), rw (eq-eqb (length x) places s, ne-eqb (length e) components-size n))
 
-    module _ (t : length e ≡ components-size) (i : ℕ) (f : i ≡ first places (faulty x)) where
-      pub faulty-sample : i < places → Ends x e (record { number = 2; place = i }) e
+    -- r is what `any_outside` answers
+    module _ (t : length e ≡ components-size) {r : Bool} (a : r ≡ any places (faulty x)) where
+      pub faulty-sample : r ≡ true → {i : ℕ} → i ≡ first places (faulty x) → Ends x e (record { number = 2; place = i }) e
       unfolding forward-returned forward-elements
-      faulty-sample h = (
-        rw (eq-eqb (length x) places s, eq-eqb (length e) components-size t, ← f, lt-ltb i places h),
-        rw (eq-eqb (length x) places s, eq-eqb (length e) components-size t, ← f, lt-ltb i places h),
+      faulty-sample h f = (
+        rw (eq-eqb (length x) places s, eq-eqb (length e) components-size t, ← a, h, f),
+        rw (eq-eqb (length x) places s, eq-eqb (length e) components-size t, ← a, h),
       )
 
-      pub no-fault : places ≤ i → Ends x e accept (elements-of x)
+      pub no-fault : r ≡ false → Ends x e accept (elements-of x)
       unfolding forward-returned forward-elements
       no-fault h = (
-        rw (eq-eqb (length x) places s, eq-eqb (length e) components-size t, ← f, le-ltb i places h),
-        rw (eq-eqb (length x) places s, eq-eqb (length e) components-size t, ← f, le-ltb i places h),
+        rw (eq-eqb (length x) places s, eq-eqb (length e) components-size t, ← a, h),
+        rw (eq-eqb (length x) places s, eq-eqb (length e) components-size t, ← a, h),
       )
 
-      pub all-in-range : places ≤ i → AllInRange x
-      all-in-range h = record { at = λ q l. not-false (in-range (sample x q)) (before-first places (faulty x) q (rw (← f) (omega arith))) }
+      pub all-in-range : r ≡ false → AllInRange x
+      all-in-range h = record { at = λ q l. not-false (in-range (sample x q)) (any-none places (faulty x) (sym a ∙ h) q l) }
 
 -- a call is accepted when the lengths are right and every sample is in range, and only then
 

@@ -1,4 +1,4 @@
--- The store of all elements, row after row.
+-- The store of a row of elements, one after the other.
 -- Assumes nothing.
 use mathlib.Core.Path.{_≡_, refl, _∙_}
 use mathlib.Core.Bool.{cond}
@@ -11,7 +11,7 @@ use lib.Dec.{eqb}
 use lib.IntN.{ℤ, pos}
 use lib.ListN.{length, getD}
 use borrow.Author.Tests.{eq-eqb, ne-eqb}
-use Rattle.integers.proofs.Tables.{Filled, length-table}
+use Rattle.integers.proofs.Tables.{length-table}
 use Rattle.ring.specs.Element.{component}
 use Rattle.elements.specs.declared.Element.{Element}
 use Rattle.elements.specs.Buffer.{entry, put}
@@ -50,21 +50,3 @@ module _ {e : List Element} {u : ℕ} {was : List ℤ} where
 
   pub row-all : {v : ℕ} {l : List ℤ} → 8 ≤ v → RowBegun e u was v l → RowStored e u was l
   row-all h R = record { size = R .size; here = λ i b q. R .done i b q (omega arith); others = R .others }
-
--- the rows up to u are stored
-pub filled-row : {f : ℕ → ℤ} {u : ℕ} {e : List Element} {l m : List ℤ} → u < 8 → Filled (pos 0) 512 f (64 * u) l → RowStored e u l m
-    → ((i : ℕ) → i / 64 ≡ u → component (entry e (i / 8 % 8)) (i % 8) ≡ f i) → Filled (pos 0) 512 f (64 * (u + 1)) m
-filled-row {f} {u} {e} {l} {m} h F S same = record {
-  each = record {
-    size = S .size ∙ F .each .size;
-    room = omega arith;
-    done = λ i b. go i b (ℕ-discrete (i / 64) u);
-  };
-}
-  where
-    inside : (i : ℕ) → i < 64 * (u + 1) → i < length l
-    inside i b = rw (F .each .size) (omega arith)
-
-    go : (i : ℕ) → i < 64 * (u + 1) → Dec (i / 64 ≡ u) → getD m i (pos 0) ≡ f i
-    go i b (yes q) = S .here i (inside i b) q ∙ same i q
-    go i b (no q) = S .others i (inside i b) q ∙ F .each .done i (omega arith)

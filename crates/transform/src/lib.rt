@@ -1,32 +1,37 @@
 // The exact transform of a block (01, "Elements"): 64 samples become 64 elements of eight components each.
 //
 // `forward` takes any buffers. An accepted call leaves the exact elements; a refused one leaves the buffer as it was, and names the first
-// cause. The work goes by columns, then rows: a step over each column makes a row of eight elements, and a step over what stands at one
-// place of these eight rows makes eight of the block's elements. The columns are whole numbers, which makes their steps nearly free. Nothing is
-// rounded or shifted on the way.
+// cause. The work goes by columns, then rows: a step over each column of whole numbers makes a row of eight elements, and a step over what stands
+// at one place of these eight rows makes a row of the block's elements. What stands there has few components that count, so that the rows 0, 4, 6
+// and 1 take the step of their class (`row_steps`); row 2 is the conjugate of 6, and 5, 7 and 3 are those of 1, 5 and 7. Nothing is rounded or
+// shifted on the way.
 //
-// 32 bits suffice: a step adds four bits to what its elements need, so that samples, of 12 bits besides the sign, need 20 after two steps.
+// 32 bits suffice: a step adds at most four bits to what its elements need (`small-step`), so that samples, of 12 bits besides the sign, need 20 after two steps.
 ghost use mathlib.Core.Path.{_≡_};
 ghost use mathlib.Core.Bool.{not};
 ghost use Prim.Native.Nat.{_%_, _*_, _+_, _/_, _<_};
 ghost use lib.ListN.{length};
-ghost use Rattle.integers.specs.Search.{first};
+ghost use Rattle.integers.specs.Search.{any, first};
 ghost use Rattle.integers.specs.Table.{table};
 ghost use Rattle.ring.specs.Element as ring;
 ghost use Rattle.dct.specs.Limits.{components-size, in-range, places};
 ghost use Rattle.dct.specs.Transform as dct;
 ghost use Rattle.answers.specs.Answer.{returned};
-ghost use Rattle.elements.specs.Buffer.{Row, entry};
-ghost use Rattle.transform.specs.Forward.{AllInRange, forward-elements, forward-returned, sample};
-ghost use Rattle.transform.specs.Rows.{Rooms, RowStored, Rows, row};
+ghost use Rattle.elements.specs.Buffer.{Row, Rows, entry, row};
+ghost use Rattle.transform.specs.Forward.{AllInRange, elements-of, forward-elements, forward-returned, sample};
+ghost use Rattle.transform.specs.Rows.{Columns, RowStored, frequencies};
 use answers::Answer;
+use element_rows::across;
 use elements::COMPONENTS;
 use elements::Element;
 use elements::PLACES;
 use elements::only;
 use elements::put;
 use number_step::number_step;
-use step::step;
+use row_steps::conjugate_row;
+use row_steps::fours_step;
+use row_steps::odds_step;
+use row_steps::twos_step;
 
 // The range of samples.
 pub const LOWEST_SAMPLE: i32 = -2048;
@@ -49,20 +54,22 @@ fn column(samples: &[i32], j: usize) -> [Element; 8]
     r
 }
 
-// A step over each column; what it makes stands as a row.
+// A step over each column; what it makes stands as a row. They are written out, so that the compiler knows each index.
 fn columns(samples: &[i32]) -> [[Element; 8]; 8]
     requires { ⌜ length (now samples) ≡ places ⌝ }
     requires { ⌜ AllInRange (now samples) ⌝ }
-    ensures { λ r. ⌜ Rows (λ j. dct.step (λ i. ring.number (sample (now (samples .entry)) (8 * i + j)))) r ⌝ }
+    ensures { λ r. ⌜ Rows (frequencies (now (samples .entry))) r ⌝ }
 {
-    let zero = only(0, 0);
-    let mut r = [[zero; 8]; 8];
-    let mut j = 0;
-    while j < 8 {
-        r[j] = number_step(column(samples, j));
-        j += 1;
-    }
-    r
+    [
+        number_step(column(samples, 0)),
+        number_step(column(samples, 1)),
+        number_step(column(samples, 2)),
+        number_step(column(samples, 3)),
+        number_step(column(samples, 4)),
+        number_step(column(samples, 5)),
+        number_step(column(samples, 6)),
+        number_step(column(samples, 7)),
+    ]
 }
 
 // The elements of row u into a buffer.
@@ -78,27 +85,35 @@ fn store_row(e: [Element; 8], u: usize, elements: &mut [i32])
     }
 }
 
-// A step over each row of the block, which is what stands at one place of every column; the elements that it makes go into a buffer.
+// A step over each row of the block, which is what stands at one place of every column; the elements that it makes go into a buffer. Four rows are
+// steps by the components that they have, and the others are conjugates of these.
 fn rows(x: [[Element; 8]; 8], elements: &mut [i32])
-    requires { ⌜ Rooms 27 x ⌝ }
+    requires { ⌜ Columns x ⌝ }
     requires { ⌜ length (now elements) ≡ components-size ⌝ }
     ensures { λ r. ⌜ now (elements .exit) ≡ table components-size (λ i. ring.component (dct.step (λ j. entry (row x j) (i / 8 / 8)) (i / 8 % 8)) (i % 8)) ⌝ }
 {
-    let mut u = 0;
-    while u < 8 {
-        let e = step([
-            x[0][u],
-            x[1][u],
-            x[2][u],
-            x[3][u],
-            x[4][u],
-            x[5][u],
-            x[6][u],
-            x[7][u],
-        ]);
-        store_row(e, u, elements);
-        u += 1;
-    }
+    store_row(fours_step(across(x, 0)), 0, elements);
+    store_row(fours_step(across(x, 4)), 4, elements);
+    let e6 = twos_step(across(x, 6));
+    store_row(e6, 6, elements);
+    store_row(conjugate_row(e6), 2, elements);
+    let e1 = odds_step(across(x, 1));
+    store_row(e1, 1, elements);
+    let e5 = conjugate_row(e1);
+    store_row(e5, 5, elements);
+    let e7 = conjugate_row(e5);
+    store_row(e7, 7, elements);
+    store_row(conjugate_row(e7), 3, elements);
+}
+
+// The exact elements of a block whose samples are in range.
+pub fn transform(samples: &[i32], elements: &mut [i32])
+    requires { ⌜ length (now samples) ≡ places ⌝ }
+    requires { ⌜ length (now elements) ≡ components-size ⌝ }
+    requires { ⌜ AllInRange (now samples) ⌝ }
+    ensures { λ r. ⌜ now (elements .exit) ≡ elements-of (now (samples .entry)) ⌝ }
+{
+    rows(columns(samples), elements);
 }
 
 // Whether a sample is out of range.
@@ -106,6 +121,20 @@ fn outside(x: i32) -> bool
     ensures { λ r. ⌜ r ≡ not (in-range x) ⌝ }
 {
     integers::outside(x, LOWEST_SAMPLE, HIGHEST_SAMPLE)
+}
+
+// Whether any sample is out of range. The loop has no early exit, so that the compiler takes several samples at a time.
+fn any_outside(samples: &[i32]) -> bool
+    requires { ⌜ length (now samples) ≡ places ⌝ }
+    ensures { λ r. ⌜ r ≡ any places (λ i. not (in-range (sample (now (samples .entry)) i))) ⌝ }
+{
+    let mut r = false;
+    let mut i = 0;
+    while i < PLACES {
+        r = r | outside(samples[i]);
+        i += 1;
+    }
+    r
 }
 
 // The lowest index of a sample that is out of range, and 64 where there is none.
@@ -134,10 +163,9 @@ pub fn forward(samples: &[i32], elements: &mut [i32]) -> Answer
     if elements.len() != COMPONENTS {
         return Answer::Lengths;
     }
-    let i = first_outside(samples);
-    if i < PLACES {
-        return Answer::Sample(i);
+    if any_outside(samples) {
+        return Answer::Sample(first_outside(samples));
     }
-    rows(columns(samples), elements);
+    transform(samples, elements);
     Answer::Accepted(0)
 }

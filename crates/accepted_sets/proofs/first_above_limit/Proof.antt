@@ -20,12 +20,6 @@ abbrev μ-loop : tie.MeasureT-loop
 loop-holds : tie.Need-loop-holds Inv-loop μ-loop
 loop-holds c = passed-none
 
-element-at-requires : tie.Need-element-at-requires Inv-loop μ-loop
-element-at-requires c κs = omega arith
-
-magnitudes-requires : tie.Need-magnitudes-requires Inv-loop μ-loop
-magnitudes-requires c κs = tt
-
 returns : tie.Need-returns Inv-loop μ-loop
 returns c =
     let at = c .before .before .before .before in
@@ -33,12 +27,6 @@ returns c =
     let sum = c .before .magnitudes .ensures ∙ ap magnitudes (c .before .before .element-at .ensures) in
     let taken = c .before .before .before .loop-test .taken in
     sym (first-at places (above-limit l) (at .loop .p) taken (at .loop .inv) (above-yes l (at .loop .p) sum (omega arith)))
-
-add-p : tie.Need-add-p Inv-loop μ-loop
-add-p c = omega arith
-
-loop-less : tie.Need-loop-less Inv-loop μ-loop
-loop-less c = omega arith
 
 loop-again : tie.Need-loop-again Inv-loop μ-loop
 loop-again c =
@@ -56,4 +44,4 @@ returns-2 c =
 pub first-above-limit-spec : {M : Type 1} → statement M
 first-above-limit-spec =
     tie.close
-    (tie.spec Inv-loop μ-loop loop-holds element-at-requires magnitudes-requires returns add-p loop-less loop-again returns-2)
+    (tie.spec Inv-loop μ-loop loop-holds (λ c κs. omega arith) (λ c κs. tt) returns (λ c. omega arith) (λ c. omega arith) loop-again returns-2)

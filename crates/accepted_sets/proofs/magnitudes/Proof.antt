@@ -31,26 +31,11 @@ loop-holds : tie.Need-loop-holds Inv-loop μ-loop
 unfolding sum
 loop-holds c = (refl, omega arith, omega arith)
 
-mul-magnitude : tie.Need-mul-magnitude Inv-loop μ-loop
-mul-magnitude c = omega arith
-
-array-copy-out-magnitude : tie.Need-array-copy-out-magnitude Inv-loop μ-loop
-array-copy-out-magnitude c = omega arith
-
-magnitude-requires : tie.Need-magnitude-requires Inv-loop μ-loop
-magnitude-requires c κs = tt
-
 add-s : tie.Need-add-s Inv-loop μ-loop
 add-s c =
     let u = c .before .before .before .before .before .args .u .components in
     let one = read (component u (c .before .before .before .loop .k)) (c .before .magnitude-arg .given) (c .magnitude .ensures) in
     omega arith
-
-add-k : tie.Need-add-k Inv-loop μ-loop
-add-k c = omega arith
-
-loop-less : tie.Need-loop-less Inv-loop μ-loop
-loop-less c = omega arith
 
 loop-again : tie.Need-loop-again Inv-loop μ-loop
 unfolding sum
@@ -69,4 +54,5 @@ returns c =
 pub magnitudes-spec : {M : Type 1} → statement M
 magnitudes-spec =
     tie.close
-    (tie.spec Inv-loop μ-loop loop-holds mul-magnitude array-copy-out-magnitude magnitude-requires add-s add-k loop-less loop-again returns)
+    (tie.spec Inv-loop μ-loop loop-holds (λ c. omega arith) (λ c. omega arith) (λ c κs. tt) add-s (λ c. omega arith) (λ c. omega arith) loop-again
+    returns)

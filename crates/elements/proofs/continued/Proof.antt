@@ -18,27 +18,12 @@ use Rattle.elements.proofs.Products.{continued-low, continued-middle, c
 use Rattle.elements.proofs.continued.Statement.{statement}
 use Rattle.elements.proofs.continued.Tie as tie
 
-sub-result : tie.Need-sub-result
-sub-result c = search needs
-
-mul-result : tie.Need-mul-result
-mul-result c = search needs
-
-array-copy-out-result : tie.Need-array-copy-out-result
-array-copy-out-result c = search needs
-
 returns : tie.Need-returns
 returns c =
     let start = c .before .before .before in
     let u = component (start .args .a .components) (7 - start .args .j) in
     let read : toZ w32 (ofZ w32 u) ≡ u = toZ-ofZ (search needs) in
     read ∙ sym (continued-low (start .args .a .components) (start .args .j) (c .before .if1 .taken))
-
-mul-result-2 : tie.Need-mul-result-2
-mul-result-2 c = search needs
-
-array-copy-out-result-2 : tie.Need-array-copy-out-result-2
-array-copy-out-result-2 c = search needs
 
 returns-2 : tie.Need-returns-2
 returns-2 c =
@@ -55,15 +40,6 @@ returns-3 c =
     sym (continued-middle (start .args .a .components) (start .args .j) (omega arith) (omega arith)
     ∙ List·getD-eq-default (start .args .a .components) (pos 0) {n = start .args .j - 7} (omega arith))
 
-sub-minus : tie.Need-sub-minus
-sub-minus c = search needs
-
-mul-minus : tie.Need-mul-minus
-mul-minus c = search needs
-
-array-copy-out-minus : tie.Need-array-copy-out-minus
-array-copy-out-minus c = search needs
-
 minus-requires : tie.Need-minus-requires
 minus-requires c κs =
     let start = c .before .before .before .before .before in
@@ -79,5 +55,5 @@ returns-4 c =
 pub continued-spec : {M : Type 1} → statement M
 continued-spec =
     tie.close
-    (tie.spec sub-result mul-result array-copy-out-result returns mul-result-2 array-copy-out-result-2 returns-2 returns-3 sub-minus mul-minus
-    array-copy-out-minus minus-requires returns-4)
+    (tie.spec (λ c. search needs) (λ c. search needs) (λ c. search needs) returns (λ c. search needs) (λ c. search needs) returns-2 returns-3
+    (λ c. search needs) (λ c. search needs) (λ c. search needs) minus-requires returns-4)

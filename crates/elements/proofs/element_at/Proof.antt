@@ -19,33 +19,6 @@ Inv-loop buffer p r₀ k₀ r k = Filled (pos 0) 8 (λ k. getD buffer (8 * p + k
 abbrev μ-loop : tie.MeasureT-loop
 μ-loop buffer p r₀ k₀ r k = 8 - k
 
-loop-holds : tie.Need-loop-holds Inv-loop μ-loop
-loop-holds c = filled-none refl
-
-mul-r : tie.Need-mul-r Inv-loop μ-loop
-mul-r c = omega arith
-
-add-r : tie.Need-add-r Inv-loop μ-loop
-add-r c = omega arith
-
-mul-r-2 : tie.Need-mul-r-2 Inv-loop μ-loop
-mul-r-2 c = omega arith
-
-shared-slice-copy-out-r : tie.Need-shared-slice-copy-out-r Inv-loop μ-loop
-shared-slice-copy-out-r c = omega arith
-
-mul-r-3 : tie.Need-mul-r-3 Inv-loop μ-loop
-mul-r-3 c = omega arith
-
-array-set-from-r : tie.Need-array-set-from-r Inv-loop μ-loop
-array-set-from-r c = omega arith
-
-add-k : tie.Need-add-k Inv-loop μ-loop
-add-k c = omega arith
-
-loop-less : tie.Need-loop-less Inv-loop μ-loop
-loop-less c = omega arith
-
 loop-again : tie.Need-loop-again Inv-loop μ-loop
 loop-again c =
     let start = c .before .before .before in
@@ -60,4 +33,5 @@ returns c = filled-all (omega arith) (c .before .loop .inv)
 pub element-at-spec : {M : Type 1} → statement M
 element-at-spec =
     tie.close
-    (tie.spec Inv-loop μ-loop loop-holds mul-r add-r mul-r-2 shared-slice-copy-out-r mul-r-3 array-set-from-r add-k loop-less loop-again returns)
+    (tie.spec Inv-loop μ-loop (λ c. filled-none refl) (λ c. omega arith) (λ c. omega arith) (λ c. omega arith) (λ c. omega arith) (λ c. omega arith)
+    (λ c. omega arith) (λ c. omega arith) (λ c. omega arith) loop-again returns)

@@ -7,14 +7,8 @@ use Rattle.elements.proofs.Componentwise.{set-only}
 use Rattle.elements.proofs.only.Statement.{statement}
 use Rattle.elements.proofs.only.Tie as tie
 
-mul-components : tie.Need-mul-components
-mul-components c = search needs
-
-array-set-from-components : tie.Need-array-set-from-components
-array-set-from-components c = search needs
-
 returns : tie.Need-returns
 returns c = rw (toZ-ofZ w32 (c .args .s) (c .fits .s)) (set-only (c .args .s) (c .args .k) (c .pre))
 
 pub only-spec : {M : Type 1} → statement M
-only-spec = tie.close (tie.spec mul-components array-set-from-components returns)
+only-spec = tie.close (tie.spec (λ c. search needs) (λ c. search needs) returns)

@@ -20,38 +20,11 @@ Inv-loop x y r₀ i₀ r i = Filled (pos 0) 8 (λ k. component x k -ℤ componen
 abbrev μ-loop : tie.MeasureT-loop
 μ-loop x y r₀ i₀ r i = 8 - i
 
-loop-holds : tie.Need-loop-holds Inv-loop μ-loop
-loop-holds c = filled-none refl
-
-mul-minus : tie.Need-mul-minus Inv-loop μ-loop
-mul-minus c = omega arith
-
-array-copy-out-minus : tie.Need-array-copy-out-minus Inv-loop μ-loop
-array-copy-out-minus c = omega arith
-
-mul-minus-2 : tie.Need-mul-minus-2 Inv-loop μ-loop
-mul-minus-2 c = omega arith
-
-array-copy-out-minus-2 : tie.Need-array-copy-out-minus-2 Inv-loop μ-loop
-array-copy-out-minus-2 c = omega arith
-
 minus-requires : tie.Need-minus-requires Inv-loop μ-loop
 minus-requires c κs =
     let start = c .before .before .before .before .before .before in
     let i = c .before .before .before .loop .i in
     components-fit _-ℤ_ natAbs-sub (start .pre .0) (start .pre .1) i i
-
-mul-r : tie.Need-mul-r Inv-loop μ-loop
-mul-r c = omega arith
-
-array-set-from-r : tie.Need-array-set-from-r Inv-loop μ-loop
-array-set-from-r c = omega arith
-
-add-i : tie.Need-add-i Inv-loop μ-loop
-add-i c = omega arith
-
-loop-less : tie.Need-loop-less Inv-loop μ-loop
-loop-less c = omega arith
 
 loop-again : tie.Need-loop-again Inv-loop μ-loop
 loop-again c =
@@ -69,5 +42,5 @@ returns c =
 pub subtract-spec : {M : Type 1} → statement M
 subtract-spec =
     tie.close
-    (tie.spec Inv-loop μ-loop loop-holds mul-minus array-copy-out-minus mul-minus-2 array-copy-out-minus-2 minus-requires mul-r array-set-from-r add-i
-    loop-less loop-again returns)
+    (tie.spec Inv-loop μ-loop (λ c. filled-none refl) (λ c. omega arith) (λ c. omega arith) (λ c. omega arith) (λ c. omega arith) minus-requires
+    (λ c. omega arith) (λ c. omega arith) (λ c. omega arith) (λ c. omega arith) loop-again returns)

@@ -25,23 +25,8 @@ Inv-loop a k r₀ i₀ r i = Filled (pos 0) 8 (λ i. continued (a .components) (
 abbrev μ-loop : tie.MeasureT-loop
 μ-loop a k r₀ i₀ r i = 8 - i
 
-loop-holds : tie.Need-loop-holds Inv-loop μ-loop
-loop-holds c = filled-none refl
-
-add-continued : tie.Need-add-continued Inv-loop μ-loop
-add-continued c = omega arith
-
-sub-continued : tie.Need-sub-continued Inv-loop μ-loop
-sub-continued c = omega arith
-
 continued-requires : tie.Need-continued-requires Inv-loop μ-loop
 continued-requires c κs = (c .before .before .pre .0, omega arith)
-
-add-continued-2 : tie.Need-add-continued-2 Inv-loop μ-loop
-add-continued-2 c = omega arith
-
-add-continued-3 : tie.Need-add-continued-3 Inv-loop μ-loop
-add-continued-3 c = omega arith
 
 continued-requires-2 : tie.Need-continued-requires-2 Inv-loop μ-loop
 continued-requires-2 c κs = (c .before .before .before .pre .0, omega arith)
@@ -53,18 +38,6 @@ plus-requires c κs =
     rw (c .before .continued .ensures, c .continued2 .ensures)
     (op-fits _+ℤ_ natAbs-add w32 {B = headroom} (lit< tt) (continued (start .args .a .components) _) (continued (start .args .a .components) _)
     (within-continued w _) (within-continued w _))
-
-mul-r : tie.Need-mul-r Inv-loop μ-loop
-mul-r c = omega arith
-
-array-set-from-r : tie.Need-array-set-from-r Inv-loop μ-loop
-array-set-from-r c = omega arith
-
-add-i : tie.Need-add-i Inv-loop μ-loop
-add-i c = omega arith
-
-loop-less : tie.Need-loop-less Inv-loop μ-loop
-loop-less c = omega arith
 
 loop-again : tie.Need-loop-again Inv-loop μ-loop
 loop-again c =
@@ -86,5 +59,5 @@ returns c =
 pub times-spec : {M : Type 1} → statement M
 times-spec =
     tie.close
-    (tie.spec Inv-loop μ-loop loop-holds add-continued sub-continued continued-requires add-continued-2 add-continued-3 continued-requires-2
-    plus-requires mul-r array-set-from-r add-i loop-less loop-again returns)
+    (tie.spec Inv-loop μ-loop (λ c. filled-none refl) (λ c. omega arith) (λ c. omega arith) continued-requires (λ c. omega arith) (λ c. omega arith)
+    continued-requires-2 plus-requires (λ c. omega arith) (λ c. omega arith) (λ c. omega arith) (λ c. omega arith) loop-again returns)

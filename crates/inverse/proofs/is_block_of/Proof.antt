@@ -5,22 +5,9 @@ use lib.IntN.{pos}
 use lib.ListN.{replicate, length-replicate}
 use borrow.Author.Needs.{needs}
 use Rattle.integers.specs.Test.{eqList}
-use Rattle.answers.specs.Answer.{Returned}
 use Rattle.inverse.proofs.Comparison.{forward-refuses, forward-accepts}
 use Rattle.inverse.proofs.is_block_of.Statement.{statement}
 use Rattle.inverse.proofs.is_block_of.Tie as tie
-
-slice-aggregate-forward : tie.Need-slice-aggregate-forward
-slice-aggregate-forward c = search needs
-
-slice-aggregate-forward-2 : tie.Need-slice-aggregate-forward-2
-slice-aggregate-forward-2 c = search needs
-
-forward-requires : tie.Need-forward-requires
-forward-requires c κs = search needs
-
-number-requires : tie.Need-number-requires
-number-requires c κs = search needs
 
 returns : tie.Need-returns
 returns c =
@@ -28,12 +15,6 @@ returns c =
     let number = c .before .number .ensures ∙ ap (λ r. r .number) (c .before .before .before .forward .ensures .0) in
     forward-refuses (start .args .elements .now) (start .args .t2) (replicate 512 (pos 0)) (search needs) (length-replicate 512 (pos 0))
     (λ e. c .if1 .taken (number ∙ e))
-
-slice-aggregate-same : tie.Need-slice-aggregate-same
-slice-aggregate-same c = search needs
-
-same-requires : tie.Need-same-requires
-same-requires c κs = search needs
 
 returns-2 : tie.Need-returns-2
 returns-2 c =
@@ -48,4 +29,5 @@ returns-2 c =
 pub is-block-of-spec : {M : Type 1} → statement M
 is-block-of-spec =
     tie.close
-    (tie.spec slice-aggregate-forward slice-aggregate-forward-2 forward-requires number-requires returns slice-aggregate-same same-requires returns-2)
+    (tie.spec (λ c. search needs) (λ c. search needs) (λ c κs. search needs) (λ c κs. search needs) returns (λ c. search needs) (λ c κs. search needs)
+    returns-2)

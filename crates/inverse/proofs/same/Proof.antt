@@ -22,23 +22,11 @@ abbrev μ-loop : tie.MeasureT-loop
 loop-holds : tie.Need-loop-holds Inv-loop μ-loop
 loop-holds c = agreed-none
 
-mul-r : tie.Need-mul-r Inv-loop μ-loop
-mul-r c = omega arith
-
 shared-slice-copy-out-r : tie.Need-shared-slice-copy-out-r Inv-loop μ-loop
 shared-slice-copy-out-r c = omega (arith, c .before .before .pre .0)
 
-mul-r-2 : tie.Need-mul-r-2 Inv-loop μ-loop
-mul-r-2 c = omega arith
-
 shared-slice-copy-out-r-2 : tie.Need-shared-slice-copy-out-r-2 Inv-loop μ-loop
 shared-slice-copy-out-r-2 c = omega (arith, c .before .before .before .pre .1)
-
-add-i : tie.Need-add-i Inv-loop μ-loop
-add-i c = omega arith
-
-loop-less : tie.Need-loop-less Inv-loop μ-loop
-loop-less c = omega arith
 
 loop-again : tie.Need-loop-again Inv-loop μ-loop
 loop-again c =
@@ -57,4 +45,5 @@ returns c =
 pub same-spec : {M : Type 1} → statement M
 same-spec =
     tie.close
-    (tie.spec Inv-loop μ-loop loop-holds mul-r shared-slice-copy-out-r mul-r-2 shared-slice-copy-out-r-2 add-i loop-less loop-again returns)
+    (tie.spec Inv-loop μ-loop loop-holds (λ c. omega arith) shared-slice-copy-out-r (λ c. omega arith) shared-slice-copy-out-r-2 (λ c. omega arith)
+    (λ c. omega arith) loop-again returns)

@@ -22,23 +22,8 @@ abbrev μ-loop : tie.MeasureT-loop
 loop-holds : tie.Need-loop-holds Inv-loop μ-loop
 loop-holds c = filled-none (c .pre)
 
-mul-samples : tie.Need-mul-samples Inv-loop μ-loop
-mul-samples c = omega arith
-
-array-copy-out-samples : tie.Need-array-copy-out-samples Inv-loop μ-loop
-array-copy-out-samples c = omega arith
-
-mul-t10 : tie.Need-mul-t10 Inv-loop μ-loop
-mul-t10 c = omega arith
-
 slice-set-from-samples : tie.Need-slice-set-from-samples Inv-loop μ-loop
 slice-set-from-samples c = omega (arith, c .before .before .loop .inv .each .size)
-
-add-i : tie.Need-add-i Inv-loop μ-loop
-add-i c = omega arith
-
-loop-less : tie.Need-loop-less Inv-loop μ-loop
-loop-less c = omega arith
 
 loop-again : tie.Need-loop-again Inv-loop μ-loop
 loop-again c =
@@ -55,5 +40,5 @@ returns c = filled-all (omega arith) (c .before .loop .inv) ∙ sym (is-table (p
 pub store-spec : {M : Type 1} → statement M
 store-spec =
     tie.close
-    (tie.spec Inv-loop μ-loop loop-holds mul-samples array-copy-out-samples mul-t10 slice-set-from-samples add-i loop-less loop-again same-length
-    returns)
+    (tie.spec Inv-loop μ-loop loop-holds (λ c. omega arith) (λ c. omega arith) (λ c. omega arith) slice-set-from-samples (λ c. omega arith)
+    (λ c. omega arith) loop-again same-length returns)

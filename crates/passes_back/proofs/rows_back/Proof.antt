@@ -1,56 +1,80 @@
--- `rows_back` meets its contract: row after row, as `row_back` makes it.
+-- `rows_back` meets its contract: each row is what `number_step_back` makes of a row of the elements, times the cosine of its component.
 -- Assumes nothing.
-use mathlib.Core.Path.{refl}
-use mathlib.Core.List.{[]}
-use Prim.Native.Nat.{_+_, _*_, _-_}
-use native.Mathlib.Omega.{arith}
 use lib.Dec.{lit<}
-use Rattle.integers.proofs.Tables.{Each, each-none, each-more}
-use Rattle.elements.specs.Buffer.{Row, element-at}
-use Rattle.passes_back.specs.Passes.{row-back}
-use Rattle.passes_back.proofs.Blocks.{room-row}
-use Rattle.passes_back.proofs.Rows.{row-gone-back}
+use Rattle.elements.specs.Buffer.{Row}
+use Rattle.element_rows.proofs.Rooms.{rows-8}
+use Rattle.passes_back.specs.Passes.{known-row}
+use Rattle.passes_back.proofs.Rows.{product, room-half, room-product, joined, row-back}
 use Rattle.passes_back.proofs.rows_back.Statement.{statement}
 use Rattle.passes_back.proofs.rows_back.Tie as tie
 
-abbrev Inv-loop : tie.InvT-loop
-Inv-loop elements r₀ u₀ r u = Each [] 8 (λ u. Row 8 (row-back (λ v. element-at elements (8 * u + v)))) u r
+-- each row that is joined
 
-abbrev μ-loop : tie.MeasureT-loop
-μ-loop elements r₀ u₀ r u = 8 - u
+row-0 : (c : tie.After-join) → Row 8 (product (c .before .before .before .before .before .before .before .before .before .before .before .args .elements .now) 0 4) (c .join .result)
+row-0 c = joined (c .before .before .before .before .before .before .before .before .before .before .before .args .elements .now) 0 4 (c .before .before .before .before .before .before .before .before .before .before .half-of .ensures) (c .before .before .before .before .before .before .before .before .before .half-of2 .ensures) (c .before .before .times-half .ensures) (c .before .times-half2 .ensures) (c .join .ensures)
 
-only-requires : tie.Need-only-requires Inv-loop μ-loop
-only-requires c κs = lit< tt
+row-1 : (c : tie.After-join2) → Row 8 (product (c .before .before .before .before .before .before .before .before .before .before .before .before .before .before .before .args .elements .now) 4 4) (c .join2 .result)
+row-1 c = joined (c .before .before .before .before .before .before .before .before .before .before .before .before .before .before .before .args .elements .now) 4 4 (c .before .before .before .before .before .before .before .before .half-of7 .ensures) (c .before .before .before .before .before .before .before .half-of8 .ensures) (c .before .before .times-half3 .ensures) (c .before .times-half4 .ensures) (c .join2 .ensures)
 
-loop-holds : tie.Need-loop-holds Inv-loop μ-loop
-loop-holds c = each-none refl
+row-2 : (c : tie.After-join3) → Row 8 (product (c .before .before .before .before .before .before .before .before .before .before .before .before .before .before .before .before .before .before .before .args .elements .now) 2 2) (c .join3 .result)
+row-2 c = joined (c .before .before .before .before .before .before .before .before .before .before .before .before .before .before .before .before .before .before .before .args .elements .now) 2 2 (c .before .before .before .before .before .before .before .before .before .before .before .before .before .before .half-of5 .ensures) (c .before .before .before .before .before .before .before .before .before .before .before .before .before .half-of6 .ensures) (c .before .before .times-half5 .ensures) (c .before .times-half6 .ensures) (c .join3 .ensures)
 
-row-of-requires : tie.Need-row-of-requires Inv-loop μ-loop
-row-of-requires c κs = (c .before .before .before .pre .size, omega arith)
+row-3 : (c : tie.After-join4) → Row 8 (product (c .before .before .before .before .before .before .before .before .before .before .before .before .before .before .before .before .before .before .before .before .before .before .before .args .elements .now) 2 6) (c .join4 .result)
+row-3 c = joined (c .before .before .before .before .before .before .before .before .before .before .before .before .before .before .before .before .before .before .before .before .before .before .before .args .elements .now) 2 6 (c .before .before .before .before .before .before .before .before .before .before .before .before .before .before .before .before .before .before .half-of5 .ensures) (c .before .before .before .before .before .before .before .before .before .before .before .before .before .before .before .before .before .half-of6 .ensures) (c .before .before .times-half7 .ensures) (c .before .times-half8 .ensures) (c .join4 .ensures)
 
-row-back-requires : tie.Need-row-back-requires Inv-loop μ-loop
-row-back-requires c κs = room-row (c .before .before .before .before .pre) (c .before .before .loop .u) (omega arith) (c .row-of .ensures)
+row-4 : (c : tie.After-join5) → Row 8 (product (c .before .before .before .before .before .before .before .before .before .before .before .before .before .before .before .before .before .before .before .before .before .before .before .before .before .before .before .args .elements .now) 1 1) (c .join5 .result)
+row-4 c = joined (c .before .before .before .before .before .before .before .before .before .before .before .before .before .before .before .before .before .before .before .before .before .before .before .before .before .before .before .args .elements .now) 1 1 (c .before .before .before .before .before .before .before .before .before .before .before .before .before .before .before .before .before .before .before .before .before .before .before .before .half-of3 .ensures) (c .before .before .before .before .before .before .before .before .before .before .before .before .before .before .before .before .before .before .before .before .before .before .before .half-of4 .ensures) (c .before .before .times-half9 .ensures) (c .before .times-half10 .ensures) (c .join5 .ensures)
 
-mul-r : tie.Need-mul-r Inv-loop μ-loop
-mul-r c = omega arith
+row-5 : (c : tie.After-join6) → Row 8 (product (c .before .before .before .before .before .before .before .before .before .before .before .before .before .before .before .before .before .before .before .before .before .before .before .before .before .before .before .before .before .before .before .args .elements .now) 1 3) (c .join6 .result)
+row-5 c = joined (c .before .before .before .before .before .before .before .before .before .before .before .before .before .before .before .before .before .before .before .before .before .before .before .before .before .before .before .before .before .before .before .args .elements .now) 1 3 (c .before .before .before .before .before .before .before .before .before .before .before .before .before .before .before .before .before .before .before .before .before .before .before .before .before .before .before .before .half-of3 .ensures) (c .before .before .before .before .before .before .before .before .before .before .before .before .before .before .before .before .before .before .before .before .before .before .before .before .before .before .before .half-of4 .ensures) (c .before .before .times-half11 .ensures) (c .before .times-half12 .ensures) (c .join6 .ensures)
 
-array-set-from-r : tie.Need-array-set-from-r Inv-loop μ-loop
-array-set-from-r c = omega arith
+row-6 : (c : tie.After-join7) → Row 8 (product (c .before .before .before .before .before .before .before .before .before .before .before .before .before .before .before .before .before .before .before .before .before .before .before .before .before .before .before .before .before .before .before .before .before .before .before .args .elements .now) 1 5) (c .join7 .result)
+row-6 c = joined (c .before .before .before .before .before .before .before .before .before .before .before .before .before .before .before .before .before .before .before .before .before .before .before .before .before .before .before .before .before .before .before .before .before .before .before .args .elements .now) 1 5 (c .before .before .before .before .before .before .before .before .before .before .before .before .before .before .before .before .before .before .before .before .before .before .before .before .before .before .before .before .before .before .before .before .half-of3 .ensures) (c .before .before .before .before .before .before .before .before .before .before .before .before .before .before .before .before .before .before .before .before .before .before .before .before .before .before .before .before .before .before .before .half-of4 .ensures) (c .before .before .times-half13 .ensures) (c .before .times-half14 .ensures) (c .join7 .ensures)
 
-add-u : tie.Need-add-u Inv-loop μ-loop
-add-u c = omega arith
+row-7 : (c : tie.After-join8) → Row 8 (product (c .before .before .before .before .before .before .before .before .before .before .before .before .before .before .before .before .before .before .before .before .before .before .before .before .before .before .before .before .before .before .before .before .before .before .before .before .before .before .before .args .elements .now) 1 7) (c .join8 .result)
+row-7 c = joined (c .before .before .before .before .before .before .before .before .before .before .before .before .before .before .before .before .before .before .before .before .before .before .before .before .before .before .before .before .before .before .before .before .before .before .before .before .before .before .before .args .elements .now) 1 7 (c .before .before .before .before .before .before .before .before .before .before .before .before .before .before .before .before .before .before .before .before .before .before .before .before .before .before .before .before .before .before .before .before .before .before .before .before .half-of3 .ensures) (c .before .before .before .before .before .before .before .before .before .before .before .before .before .before .before .before .before .before .before .before .before .before .before .before .before .before .before .before .before .before .before .before .before .before .before .half-of4 .ensures) (c .before .before .times-half15 .ensures) (c .before .times-half16 .ensures) (c .join8 .ensures)
 
-loop-less : tie.Need-loop-less Inv-loop μ-loop
-loop-less c = omega arith
-
-loop-again : tie.Need-loop-again Inv-loop μ-loop
-loop-again c = each-more (omega arith) (c .before .before .before .loop .inv) (row-gone-back (c .before .row-of .ensures) (c .row-back .ensures))
-
-returns : tie.Need-returns Inv-loop μ-loop
-returns c = record { at = λ u h. c .before .loop .inv .done u (omega arith) }
+returns : tie.Need-returns
+unfolding known-row
+returns c =
+    rows-8
+    (row-back (row-0 (c .before .before .before .before .before .before .before .before .before .before .before .before .before .before .before .before .before .before .before .before .before .before .before .before .before .before .before .before .before)) (c .before .before .before .before .before .before .before .before .before .before .before .before .before .before .before .before .before .before .before .before .before .before .before .before .before .before .before .before .number-step-back .ensures))
+    (row-back (row-1 (c .before .before .before .before .before .before .before .before .before .before .before .before .before .before .before .before .before .before .before .before .before .before .before .before .before)) (c .before .before .before .before .before .before .before .before .before .before .before .before .before .before .before .before .before .before .before .before .before .before .before .before .number-step-back2 .ensures))
+    (row-back (row-2 (c .before .before .before .before .before .before .before .before .before .before .before .before .before .before .before .before .before .before .before .before .before)) (c .before .before .before .before .before .before .before .before .before .before .before .before .before .before .before .before .before .before .before .before .number-step-back3 .ensures))
+    (row-back (row-3 (c .before .before .before .before .before .before .before .before .before .before .before .before .before .before .before .before .before)) (c .before .before .before .before .before .before .before .before .before .before .before .before .before .before .before .before .number-step-back4 .ensures))
+    (row-back (row-4 (c .before .before .before .before .before .before .before .before .before .before .before .before .before)) (c .before .before .before .before .before .before .before .before .before .before .before .before .number-step-back5 .ensures))
+    (row-back (row-5 (c .before .before .before .before .before .before .before .before .before)) (c .before .before .before .before .before .before .before .before .number-step-back6 .ensures))
+    (row-back (row-6 (c .before .before .before .before .before)) (c .before .before .before .before .number-step-back7 .ensures))
+    (row-back (row-7 (c .before)) (c .number-step-back8 .ensures))
 
 pub rows-back-spec : {M : Type 1} → statement M
 rows-back-spec =
     tie.close
-    (tie.spec Inv-loop μ-loop only-requires loop-holds row-of-requires row-back-requires mul-r array-set-from-r add-u loop-less loop-again
+    (tie.spec
+    (λ c κs. (c .pre .size, lit< tt)) (λ c κs. (c .before .pre .size, lit< tt)) (λ c κs. (c .before .before .pre .size, lit< tt)) (λ c κs. (c .before .before .before .pre .size, lit< tt))
+    (λ c κs. (c .before .before .before .before .pre .size, lit< tt)) (λ c κs. (c .before .before .before .before .before .pre .size, lit< tt)) (λ c κs. (c .before .before .before .before .before .before .pre .size, lit< tt)) (λ c κs. (c .before .before .before .before .before .before .before .pre .size, lit< tt))
+    (λ c κs. (room-half (c .before .before .before .before .before .before .before .before .pre) 0 (lit< tt) (c .before .before .before .before .before .before .before .half-of .ensures), lit< tt))
+    (λ c κs. (room-half (c .before .before .before .before .before .before .before .before .before .pre) 1 (lit< tt) (c .before .before .before .before .before .before .before .half-of2 .ensures), lit< tt)) (λ c κs. tt)
+    (λ c κs. room-product (c .before .before .before .before .before .before .before .before .before .before .before .pre) 0 4 (lit< tt) (row-0 c))
+    (λ c κs. (room-half (c .before .before .before .before .before .before .before .before .before .before .before .before .pre) 32 (lit< tt) (c .before .before .before .before .before .half-of7 .ensures), lit< tt))
+    (λ c κs. (room-half (c .before .before .before .before .before .before .before .before .before .before .before .before .before .pre) 33 (lit< tt) (c .before .before .before .before .before .half-of8 .ensures), lit< tt)) (λ c κs. tt)
+    (λ c κs. room-product (c .before .before .before .before .before .before .before .before .before .before .before .before .before .before .before .pre) 4 4 (lit< tt) (row-1 c))
+    (λ c κs. (room-half (c .before .before .before .before .before .before .before .before .before .before .before .before .before .before .before .before .pre) 16 (lit< tt) (c .before .before .before .before .before .before .before .before .before .before .before .half-of5 .ensures), lit< tt))
+    (λ c κs. (room-half (c .before .before .before .before .before .before .before .before .before .before .before .before .before .before .before .before .before .pre) 17 (lit< tt) (c .before .before .before .before .before .before .before .before .before .before .before .half-of6 .ensures), lit< tt)) (λ c κs. tt)
+    (λ c κs. room-product (c .before .before .before .before .before .before .before .before .before .before .before .before .before .before .before .before .before .before .before .pre) 2 2 (lit< tt) (row-2 c))
+    (λ c κs. (room-half (c .before .before .before .before .before .before .before .before .before .before .before .before .before .before .before .before .before .before .before .before .pre) 16 (lit< tt) (c .before .before .before .before .before .before .before .before .before .before .before .before .before .before .before .half-of5 .ensures), lit< tt))
+    (λ c κs. (room-half (c .before .before .before .before .before .before .before .before .before .before .before .before .before .before .before .before .before .before .before .before .before .pre) 17 (lit< tt) (c .before .before .before .before .before .before .before .before .before .before .before .before .before .before .before .half-of6 .ensures), lit< tt)) (λ c κs. tt)
+    (λ c κs. room-product (c .before .before .before .before .before .before .before .before .before .before .before .before .before .before .before .before .before .before .before .before .before .before .before .pre) 2 6 (lit< tt) (row-3 c))
+    (λ c κs. (room-half (c .before .before .before .before .before .before .before .before .before .before .before .before .before .before .before .before .before .before .before .before .before .before .before .before .pre) 8 (lit< tt) (c .before .before .before .before .before .before .before .before .before .before .before .before .before .before .before .before .before .before .before .before .before .half-of3 .ensures), lit< tt))
+    (λ c κs. (room-half (c .before .before .before .before .before .before .before .before .before .before .before .before .before .before .before .before .before .before .before .before .before .before .before .before .before .pre) 9 (lit< tt) (c .before .before .before .before .before .before .before .before .before .before .before .before .before .before .before .before .before .before .before .before .before .half-of4 .ensures), lit< tt)) (λ c κs. tt)
+    (λ c κs. room-product (c .before .before .before .before .before .before .before .before .before .before .before .before .before .before .before .before .before .before .before .before .before .before .before .before .before .before .before .pre) 1 1 (lit< tt) (row-4 c))
+    (λ c κs. (room-half (c .before .before .before .before .before .before .before .before .before .before .before .before .before .before .before .before .before .before .before .before .before .before .before .before .before .before .before .before .pre) 8 (lit< tt) (c .before .before .before .before .before .before .before .before .before .before .before .before .before .before .before .before .before .before .before .before .before .before .before .before .before .half-of3 .ensures), lit< tt))
+    (λ c κs. (room-half (c .before .before .before .before .before .before .before .before .before .before .before .before .before .before .before .before .before .before .before .before .before .before .before .before .before .before .before .before .before .pre) 9 (lit< tt) (c .before .before .before .before .before .before .before .before .before .before .before .before .before .before .before .before .before .before .before .before .before .before .before .before .before .half-of4 .ensures), lit< tt)) (λ c κs. tt)
+    (λ c κs. room-product (c .before .before .before .before .before .before .before .before .before .before .before .before .before .before .before .before .before .before .before .before .before .before .before .before .before .before .before .before .before .before .before .pre) 1 3 (lit< tt) (row-5 c))
+    (λ c κs. (room-half (c .before .before .before .before .before .before .before .before .before .before .before .before .before .before .before .before .before .before .before .before .before .before .before .before .before .before .before .before .before .before .before .before .pre) 8 (lit< tt) (c .before .before .before .before .before .before .before .before .before .before .before .before .before .before .before .before .before .before .before .before .before .before .before .before .before .before .before .before .before .half-of3 .ensures), lit< tt))
+    (λ c κs. (room-half (c .before .before .before .before .before .before .before .before .before .before .before .before .before .before .before .before .before .before .before .before .before .before .before .before .before .before .before .before .before .before .before .before .before .pre) 9 (lit< tt) (c .before .before .before .before .before .before .before .before .before .before .before .before .before .before .before .before .before .before .before .before .before .before .before .before .before .before .before .before .before .half-of4 .ensures), lit< tt)) (λ c κs. tt)
+    (λ c κs. room-product (c .before .before .before .before .before .before .before .before .before .before .before .before .before .before .before .before .before .before .before .before .before .before .before .before .before .before .before .before .before .before .before .before .before .before .before .pre) 1 5 (lit< tt) (row-6 c))
+    (λ c κs. (room-half (c .before .before .before .before .before .before .before .before .before .before .before .before .before .before .before .before .before .before .before .before .before .before .before .before .before .before .before .before .before .before .before .before .before .before .before .before .pre) 8 (lit< tt) (c .before .before .before .before .before .before .before .before .before .before .before .before .before .before .before .before .before .before .before .before .before .before .before .before .before .before .before .before .before .before .before .before .before .half-of3 .ensures), lit< tt))
+    (λ c κs. (room-half (c .before .before .before .before .before .before .before .before .before .before .before .before .before .before .before .before .before .before .before .before .before .before .before .before .before .before .before .before .before .before .before .before .before .before .before .before .before .pre) 9 (lit< tt) (c .before .before .before .before .before .before .before .before .before .before .before .before .before .before .before .before .before .before .before .before .before .before .before .before .before .before .before .before .before .before .before .before .before .half-of4 .ensures), lit< tt)) (λ c κs. tt)
+    (λ c κs. room-product (c .before .before .before .before .before .before .before .before .before .before .before .before .before .before .before .before .before .before .before .before .before .before .before .before .before .before .before .before .before .before .before .before .before .before .before .before .before .before .before .pre) 1 7 (lit< tt) (row-7 c))
     returns)

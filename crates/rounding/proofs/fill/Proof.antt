@@ -34,26 +34,11 @@ numbers-at-requires c κs = c .pre .ready-width
 loop-holds : tie.Need-loop-holds Inv-loop μ-loop
 loop-holds c = filled-none (c .before .pre .coefficients-length)
 
-element-at-requires : tie.Need-element-at-requires Inv-loop μ-loop
-element-at-requires c κs = omega arith
-
 coefficient-requires : tie.Need-coefficient-requires Inv-loop μ-loop
 coefficient-requires c κs =
     let start = c .before .before .before .before in
     let table = c .before .before .before .numbers-at .ensures in
     allowed (start .pre .ready-width) table (c .element-at .ensures) (start .pre .ready-set .in-limit _ (omega arith))
-
-mul-y : tie.Need-mul-y Inv-loop μ-loop
-mul-y c = omega arith
-
-slice-set-from-y : tie.Need-slice-set-from-y Inv-loop μ-loop
-slice-set-from-y c = omega arith
-
-add-i : tie.Need-add-i Inv-loop μ-loop
-add-i c = omega arith
-
-loop-less : tie.Need-loop-less Inv-loop μ-loop
-loop-less c = omega arith
 
 loop-again : tie.Need-loop-again Inv-loop μ-loop
 loop-again c =
@@ -64,14 +49,11 @@ loop-again c =
     filled-more (omega arith) (c .before .before .before .loop .inv)
     (coefficient-kept bounds (c .coefficient .ensures) ∙ ap₂ (coefficient (start .args .b)) table element)
 
-same-length : tie.Need-same-length Inv-loop μ-loop
-same-length c = omega arith
-
 returns : tie.Need-returns Inv-loop μ-loop
 returns c = filled-all (omega arith) (c .before .loop .inv)
 
 pub fill-spec : {M : Type 1} → statement M
 fill-spec =
     tie.close
-    (tie.spec Inv-loop μ-loop numbers-at-requires loop-holds element-at-requires coefficient-requires mul-y slice-set-from-y add-i loop-less
-    loop-again same-length returns)
+    (tie.spec Inv-loop μ-loop numbers-at-requires loop-holds (λ c κs. omega arith) coefficient-requires (λ c. omega arith) (λ c. omega arith)
+    (λ c. omega arith) (λ c. omega arith) loop-again (λ c. omega arith) returns)

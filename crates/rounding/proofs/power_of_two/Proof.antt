@@ -13,12 +13,6 @@ use borrow.Author.Needs.{needs}
 use Rattle.rounding.proofs.power_of_two.Statement.{statement}
 use Rattle.rounding.proofs.power_of_two.Tie as tie
 
-cast-result : tie.Need-cast-result
-cast-result c = search needs
-
-shl-result : tie.Need-shl-result
-shl-result c = search needs
-
 returns : tie.Need-returns
 returns c =
     let b = c .args .b in
@@ -26,4 +20,4 @@ returns c =
     ap (toZ w64) e ∙ toZ-pos w64 (pow-lt (c .pre))
 
 pub power-of-two-spec : {M : Type 1} → statement M
-power-of-two-spec = tie.close (tie.spec cast-result shl-result returns)
+power-of-two-spec = tie.close (tie.spec (λ c. search needs) (λ c. search needs) returns)

@@ -21,9 +21,6 @@ returns-2 c =
     let start = c .before .before in
     refused-coefficients (start .args .elements .now) (start .args .b) (start .args .coefficients .now) (c .before .if1 .left) (c .if2 .taken)
 
-is-width-requires : tie.Need-is-width-requires
-is-width-requires c κs = tt
-
 returns-3 : tie.Need-returns-3
 returns-3 c =
     let start = c .before .before .before .before in
@@ -67,4 +64,4 @@ returns-5 c =
 
 pub round-spec : {M : Type 1} → statement M
 round-spec =
-    tie.close (tie.spec returns returns-2 is-width-requires returns-3 first-above-limit-requires returns-4 fill-requires same-length returns-5)
+    tie.close (tie.spec returns returns-2 (λ c κs. tt) returns-3 first-above-limit-requires returns-4 fill-requires same-length returns-5)

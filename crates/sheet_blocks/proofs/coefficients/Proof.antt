@@ -1,41 +1,37 @@
--- `coefficients` meets its contract: forward and rounding accept the block.
+-- `coefficients` meets its contract: the block's elements are an accepted set.
 -- Assumes nothing.
-use mathlib.Core.Path.{refl}
+use mathlib.Core.Path.{refl, ap, _∙_}
 use borrow.Author.Needs.{needs}
-use Rattle.sheet_blocks.proofs.Samples.{forward-leaves, round-leaves}
+use Rattle.transform.specs.Forward.{elements-of}
+use Rattle.rounding.specs.Rounding.{coefficients-of}
+use Rattle.sheet_blocks.specs.Blocks.{block-coefficients}
+use Rattle.sheet_blocks.proofs.Samples.{block-length, block-ready}
 use Rattle.sheet_blocks.proofs.coefficients.Statement.{statement}
 use Rattle.sheet_blocks.proofs.coefficients.Tie as tie
 
-block-requires : tie.Need-block-requires
-block-requires c κs = search needs
+transform-requires : tie.Need-transform-requires
+transform-requires c κs =
+    let made = c .before .before in
+    let start = made .before .before in
+    (rw (made .block .ensures) (block-length _ _), (start .pre .1 .1 .1, rw (made .block .ensures) (start .pre .1 .1 .0)))
 
-slice-aggregate-forward : tie.Need-slice-aggregate-forward
-slice-aggregate-forward c = search needs
-
-forward-requires : tie.Need-forward-requires
-forward-requires c κs = search needs
-
-slice-aggregate-round : tie.Need-slice-aggregate-round
-slice-aggregate-round c = search needs
-
-round-requires : tie.Need-round-requires
-round-requires c κs = search needs
-
-same-length : tie.Need-same-length
-same-length c = search needs
-
-returns : tie.Need-returns
-returns c =
-    let rounded = c .before in
-    let turned = rounded .before .before .before .before in
+fill-requires : tie.Need-fill-requires
+fill-requires c κs =
+    let turned = c .before .before .before in
     let made = turned .before .before .before in
     let start = made .before .before in
-    let words = start .args .words .now in
-    let range = start .pre .1 .1 .0 in
-    let elements = forward-leaves words (start .args .k) range _ (made .block .ensures) (start .pre .1 .1 .1) (turned .forward .ensures .1) in
-    (round-leaves words (start .args .k) range _ _ (start .pre .0) elements refl (rounded .round .ensures .1 .0), elements)
+    block-ready (start .pre .1 .1 .0) (turned .transform .ensures ∙ ap elements-of (made .block .ensures)) refl (start .pre .0)
+
+returns : tie.Need-returns
+unfolding block-coefficients
+returns c =
+    let turned = c .before .before .before .before .before in
+    let made = turned .before .before .before in
+    let start = made .before .before in
+    let elements = turned .transform .ensures ∙ ap elements-of (made .block .ensures) in
+    (c .before .fill .ensures ∙ ap (coefficients-of (start .args .b)) elements, elements)
 
 pub coefficients-spec : {M : Type 1} → statement M
 coefficients-spec =
     tie.close
-    (tie.spec block-requires slice-aggregate-forward forward-requires slice-aggregate-round round-requires same-length returns)
+    (tie.spec (λ c κs. search needs) (λ c. search needs) transform-requires (λ c. search needs) fill-requires (λ c. search needs) returns)

@@ -22,38 +22,8 @@ Inv-loop samples j r₀ i₀ r i = Each (record { components = [] }) 8 (λ i e. 
 abbrev μ-loop : tie.MeasureT-loop
 μ-loop samples j r₀ i₀ r i = 8 - i
 
-only-requires : tie.Need-only-requires Inv-loop μ-loop
-only-requires c κs = lit< tt
-
 loop-holds : tie.Need-loop-holds Inv-loop μ-loop
 loop-holds c = each-none (length-replicate 8 (c .only .result))
-
-mul-only : tie.Need-mul-only Inv-loop μ-loop
-mul-only c = omega arith
-
-add-only : tie.Need-add-only Inv-loop μ-loop
-add-only c = omega arith
-
-mul-only-2 : tie.Need-mul-only-2 Inv-loop μ-loop
-mul-only-2 c = omega arith
-
-shared-slice-copy-out-only : tie.Need-shared-slice-copy-out-only Inv-loop μ-loop
-shared-slice-copy-out-only c = omega arith
-
-only-requires-2 : tie.Need-only-requires-2 Inv-loop μ-loop
-only-requires-2 c κs = lit< tt
-
-mul-r : tie.Need-mul-r Inv-loop μ-loop
-mul-r c = omega arith
-
-array-set-from-r : tie.Need-array-set-from-r Inv-loop μ-loop
-array-set-from-r c = omega arith
-
-add-i : tie.Need-add-i Inv-loop μ-loop
-add-i c = omega arith
-
-loop-less : tie.Need-loop-less Inv-loop μ-loop
-loop-less c = omega arith
 
 loop-again : tie.Need-loop-again Inv-loop μ-loop
 loop-again c =
@@ -68,5 +38,5 @@ returns c = record { at = λ i h. c .before .loop .inv .done i (omega arith) }
 pub column-spec : {M : Type 1} → statement M
 column-spec =
     tie.close
-    (tie.spec Inv-loop μ-loop only-requires loop-holds mul-only add-only mul-only-2 shared-slice-copy-out-only only-requires-2 mul-r array-set-from-r
-    add-i loop-less loop-again returns)
+    (tie.spec Inv-loop μ-loop (λ c κs. lit< tt) loop-holds (λ c. omega arith) (λ c. omega arith) (λ c. omega arith) (λ c. omega arith)
+    (λ c κs. lit< tt) (λ c. omega arith) (λ c. omega arith) (λ c. omega arith) (λ c. omega arith) loop-again returns)

@@ -1,59 +1,34 @@
--- `columns` meets its contract: column after column, as `number_step` makes it.
+-- `columns` meets its contract: eight columns, as `number_step` makes them.
 -- Assumes nothing.
-use mathlib.Core.Path.{refl}
-use mathlib.Core.List.{[]}
-use Prim.Native.Nat.{_-_}
-use native.Mathlib.Omega.{arith}
 use lib.Dec.{lit<}
-use Rattle.integers.proofs.Tables.{Each, each-none, each-more}
-use Rattle.elements.specs.Buffer.{Row}
-use Rattle.transform.proofs.Blocks.{frequencies, room-column, number-column, stepped-column}
+use Rattle.element_rows.proofs.Rooms.{rows-8}
+use Rattle.transform.proofs.Blocks.{stepped-column, room-column}
 use Rattle.transform.proofs.columns.Statement.{statement}
 use Rattle.transform.proofs.columns.Tie as tie
 
-abbrev Inv-loop : tie.InvT-loop
-Inv-loop samples r₀ j₀ r j = Each [] 8 (λ j. Row 8 (frequencies samples j)) j r
-
-abbrev μ-loop : tie.MeasureT-loop
-μ-loop samples r₀ j₀ r j = 8 - j
-
-only-requires : tie.Need-only-requires Inv-loop μ-loop
-only-requires c κs = lit< tt
-
-loop-holds : tie.Need-loop-holds Inv-loop μ-loop
-loop-holds c = each-none refl
-
-column-requires : tie.Need-column-requires Inv-loop μ-loop
-column-requires c κs = (c .before .before .before .pre .0, omega arith)
-
-number-step-requires : tie.Need-number-step-requires Inv-loop μ-loop
-number-step-requires c κs =
-    let start = c .before .before .before .before in
-    let j = c .before .before .loop .j in
-    (room-column (start .pre .1) j (omega arith) (c .column .ensures), number-column (start .args .samples .now) j (c .column .ensures))
-
-mul-r : tie.Need-mul-r Inv-loop μ-loop
-mul-r c = omega arith
-
-array-set-from-r : tie.Need-array-set-from-r Inv-loop μ-loop
-array-set-from-r c = omega arith
-
-add-j : tie.Need-add-j Inv-loop μ-loop
-add-j c = omega arith
-
-loop-less : tie.Need-loop-less Inv-loop μ-loop
-loop-less c = omega arith
-
-loop-again : tie.Need-loop-again Inv-loop μ-loop
-loop-again c =
-    let x = c .before .before .before .before .before .args .samples .now in
-    let loop = c .before .before .before in
-    each-more (omega arith) (loop .loop .inv) (stepped-column x (loop .loop .j) (c .before .column .ensures) (c .number-step .ensures))
-
-returns : tie.Need-returns Inv-loop μ-loop
-returns c = record { at = λ j h. c .before .loop .inv .done j (omega arith) }
+returns : tie.Need-returns
+returns c =
+    let x = c .before .before .before .before .before .before .before .before .before .before .before .before .before .before .before .before .args .samples .now in
+    rows-8
+    (stepped-column x 0 (c .before .before .before .before .before .before .before .before .before .before .before .before .before .before .before .column .ensures) (c .before .before .before .before .before .before .before .before .before .before .before .before .before .before .number-step .ensures))
+    (stepped-column x 1 (c .before .before .before .before .before .before .before .before .before .before .before .before .before .column2 .ensures) (c .before .before .before .before .before .before .before .before .before .before .before .before .number-step2 .ensures))
+    (stepped-column x 2 (c .before .before .before .before .before .before .before .before .before .before .before .column3 .ensures) (c .before .before .before .before .before .before .before .before .before .before .number-step3 .ensures))
+    (stepped-column x 3 (c .before .before .before .before .before .before .before .before .before .column4 .ensures) (c .before .before .before .before .before .before .before .before .number-step4 .ensures))
+    (stepped-column x 4 (c .before .before .before .before .before .before .before .column5 .ensures) (c .before .before .before .before .before .before .number-step5 .ensures))
+    (stepped-column x 5 (c .before .before .before .before .before .column6 .ensures) (c .before .before .before .before .number-step6 .ensures))
+    (stepped-column x 6 (c .before .before .before .column7 .ensures) (c .before .before .number-step7 .ensures))
+    (stepped-column x 7 (c .before .column8 .ensures) (c .number-step8 .ensures))
 
 pub columns-spec : {M : Type 1} → statement M
 columns-spec =
     tie.close
-    (tie.spec Inv-loop μ-loop only-requires loop-holds column-requires number-step-requires mul-r array-set-from-r add-j loop-less loop-again returns)
+    (tie.spec
+    (λ c κs. (c .pre .0, lit< tt)) (λ c κs. room-column (c .before .pre .1) 0 (lit< tt) (c .column .ensures))
+    (λ c κs. (c .before .before .pre .0, lit< tt)) (λ c κs. room-column (c .before .before .before .pre .1) 1 (lit< tt) (c .column2 .ensures))
+    (λ c κs. (c .before .before .before .before .pre .0, lit< tt)) (λ c κs. room-column (c .before .before .before .before .before .pre .1) 2 (lit< tt) (c .column3 .ensures))
+    (λ c κs. (c .before .before .before .before .before .before .pre .0, lit< tt)) (λ c κs. room-column (c .before .before .before .before .before .before .before .pre .1) 3 (lit< tt) (c .column4 .ensures))
+    (λ c κs. (c .before .before .before .before .before .before .before .before .pre .0, lit< tt)) (λ c κs. room-column (c .before .before .before .before .before .before .before .before .before .pre .1) 4 (lit< tt) (c .column5 .ensures))
+    (λ c κs. (c .before .before .before .before .before .before .before .before .before .before .pre .0, lit< tt)) (λ c κs. room-column (c .before .before .before .before .before .before .before .before .before .before .before .pre .1) 5 (lit< tt) (c .column6 .ensures))
+    (λ c κs. (c .before .before .before .before .before .before .before .before .before .before .before .before .pre .0, lit< tt)) (λ c κs. room-column (c .before .before .before .before .before .before .before .before .before .before .before .before .before .pre .1) 6 (lit< tt) (c .column7 .ensures))
+    (λ c κs. (c .before .before .before .before .before .before .before .before .before .before .before .before .before .before .pre .0, lit< tt)) (λ c κs. room-column (c .before .before .before .before .before .before .before .before .before .before .before .before .before .before .before .pre .1) 7 (lit< tt) (c .column8 .ensures))
+    returns)

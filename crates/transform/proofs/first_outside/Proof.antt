@@ -23,27 +23,12 @@ abbrev μ-loop : tie.MeasureT-loop
 loop-holds : tie.Need-loop-holds Inv-loop μ-loop
 loop-holds c = passed-none
 
-mul-outside : tie.Need-mul-outside Inv-loop μ-loop
-mul-outside c = omega arith
-
-shared-slice-copy-out-outside : tie.Need-shared-slice-copy-out-outside Inv-loop μ-loop
-shared-slice-copy-out-outside c = omega arith
-
-outside-requires : tie.Need-outside-requires Inv-loop μ-loop
-outside-requires c κs = tt
-
 returns : tie.Need-returns Inv-loop μ-loop
 returns c =
     let x = sample (c .before .before .before .before .before .args .samples .now) (c .before .before .before .before .loop .i) in
     let read : toZ w32 (ofZ w32 x) ≡ x = toZ-ofZ (search needs) in
     sym (first-at places _ _ (omega arith) (c .before .before .before .before .loop .inv)
     (ap (λ z. not (in-range z)) (sym read) ∙ sym (c .before .outside .ensures) ∙ c .if1 .taken))
-
-add-i : tie.Need-add-i Inv-loop μ-loop
-add-i c = omega arith
-
-loop-less : tie.Need-loop-less Inv-loop μ-loop
-loop-less c = omega arith
 
 loop-again : tie.Need-loop-again Inv-loop μ-loop
 loop-again c =
@@ -61,4 +46,5 @@ returns-2 c =
 pub first-outside-spec : {M : Type 1} → statement M
 first-outside-spec =
     tie.close
-    (tie.spec Inv-loop μ-loop loop-holds mul-outside shared-slice-copy-out-outside outside-requires returns add-i loop-less loop-again returns-2)
+    (tie.spec Inv-loop μ-loop loop-holds (λ c. omega arith) (λ c. omega arith) (λ c κs. tt) returns (λ c. omega arith) (λ c. omega arith) loop-again
+    returns-2)

@@ -11,9 +11,6 @@ use Rattle.transform.proofs.Range.{outside-range}
 use Rattle.transform.proofs.outside.Statement.{statement}
 use Rattle.transform.proofs.outside.Tie as tie
 
-outside-requires : tie.Need-outside-requires
-outside-requires c κs = search needs
-
 returns : tie.Need-returns
 returns c =
     let x = c .before .args .x in
@@ -21,4 +18,4 @@ returns c =
     c .outside .ensures ∙ rw read (outside-range (sample-limit - 1) x)
 
 pub outside-spec : {M : Type 1} → statement M
-outside-spec = tie.close (tie.spec outside-requires returns)
+outside-spec = tie.close (tie.spec (λ c κs. search needs) returns)

@@ -1,135 +1,93 @@
--- `rows` meets its contract: one step after the other, each over what stands at one place of every column, and stored.
+-- `rows` meets its contract: four rows are steps, four are conjugates of them, and each is stored where it belongs.
 -- Assumes nothing.
-use mathlib.Core.Path.{_≡_, sym, ap, _∙_}
-use Prim.Native.Nat.{ℕ, _*_, _-_, _/_, _%_}
+use mathlib.Core.Path.{_≡_, refl, sym, _∙_}
+use mathlib.Core.List.{List}
+use Prim.Native.Nat.{ℕ, _/_}
 use native.Mathlib.Omega.{arith}
-use lib.IntN.{pos}
-use Rattle.integers.proofs.Tables.{Filled, filled-none, filled-all}
-use Rattle.ring.specs.Element.{component}
-use Rattle.dct.specs.Transform.{step}
-use Rattle.elements.specs.Buffer.{entry}
-use Rattle.transform.specs.Rows.{row}
-use Rattle.transform.proofs.Blocks.{room-across, stepped-across}
-use Rattle.transform.proofs.Stores.{filled-row}
+use lib.Dec.{T, lit<}
+use lib.IntN.{ℤ}
+use lib.ListN.{length}
+use Rattle.ring.specs.Element.{cosine}
+use Rattle.dct.specs.Rows.{restricted, fours, twos, odds}
+use Rattle.dct.specs.Transform.{factor}
+use Rattle.dct.proofs.Parts.{spans}
+use Rattle.integers.specs.Table.{PartStored}
+use Rattle.integers.specs.Sum.{sum}
+use Rattle.integers.proofs.Parts.{parts-none, parts-more, parts-all}
+use Rattle.transform.proofs.Blocks.{RowOf, component-of, in-row, room-across, counts-across, stepped-across, room-stepped, conjugated}
 use Rattle.transform.proofs.rows.Statement.{statement}
 use Rattle.transform.proofs.rows.Tie as tie
 
-abbrev Inv-loop : tie.InvT-loop
-Inv-loop elements₀ x u₀ elements u = Filled (pos 0) 512 (λ i. component (step (λ j. entry (row x j) (i / 8 / 8)) (i / 8 % 8)) (i % 8)) (64 * u) elements
+-- the components that the rows 0, 4, 6 and 1 have
+spanned : T (spans fours 1 0) × T (spans fours 1 4) × T (spans twos 2 6) × T (spans odds 4 1)
+unfolding sum restricted factor cosine
+spanned = (tt, tt, tt, tt)
 
-abbrev μ-loop : tie.MeasureT-loop
-μ-loop elements₀ x u₀ elements u = 8 - u
+-- a stored row leaves the buffer as long as it was
+sized : {part : ℕ → ℕ} {u n : ℕ} {f : ℕ → ℤ} {was left : List ℤ} → PartStored part u f was left → length was ≡ n → length left ≡ n
+sized S p = S .size ∙ p
 
-loop-holds : tie.Need-loop-holds Inv-loop μ-loop
-loop-holds c = filled-none (c .pre .1)
+-- each row
 
-mul-t9 : tie.Need-mul-t9 Inv-loop μ-loop
-mul-t9 c = omega arith
+row-0 : (c : tie.After-fours-step) → RowOf (c .before .before .args .x) 0 (c .fours-step .result)
+row-0 c = stepped-across (c .before .before .pre .0) 0 (lit< tt) (c .before .across .ensures) (c .fours-step .ensures)
 
-index-1-t12 : tie.Need-index-1-t12 Inv-loop μ-loop
-index-1-t12 c = omega arith
+row-4 : (c : tie.After-fours-step2) → RowOf (c .before .before .before .before .before .before .before .args .x) 4 (c .fours-step2 .result)
+row-4 c = stepped-across (c .before .before .before .before .before .before .before .pre .0) 4 (lit< tt) (c .before .across2 .ensures) (c .fours-step2 .ensures)
 
-index-2-t12 : tie.Need-index-2-t12 Inv-loop μ-loop
-index-2-t12 c = omega arith
+row-6 : (c : tie.After-twos-step) → RowOf (c .before .before .before .before .before .before .before .before .before .before .before .before .args .x) 6 (c .twos-step .result)
+row-6 c = stepped-across (c .before .before .before .before .before .before .before .before .before .before .before .before .pre .0) 6 (lit< tt) (c .before .across3 .ensures) (c .twos-step .ensures)
 
-mul-t15 : tie.Need-mul-t15 Inv-loop μ-loop
-mul-t15 c = omega arith
+row-2 : (c : tie.After-conjugate-row) → RowOf (c .before .before .before .before .before .before .before .before .before .before .before .before .before .before .before .before .args .x) 2 (c .conjugate-row .result)
+row-2 c = conjugated (c .before .before .before .before .before .before .before .before .before .before .before .before .before .before .before .before .pre .0) 2 (lit< tt) (lit< tt) refl (row-6 (c .before .before .before .before)) (c .conjugate-row .ensures)
 
-index-1-t18 : tie.Need-index-1-t18 Inv-loop μ-loop
-index-1-t18 c = omega arith
+row-1 : (c : tie.After-odds-step) → RowOf (c .before .before .before .before .before .before .before .before .before .before .before .before .before .before .before .before .before .before .before .before .before .args .x) 1 (c .odds-step .result)
+row-1 c = stepped-across (c .before .before .before .before .before .before .before .before .before .before .before .before .before .before .before .before .before .before .before .before .before .pre .0) 1 (lit< tt) (c .before .across4 .ensures) (c .odds-step .ensures)
 
-index-2-t18 : tie.Need-index-2-t18 Inv-loop μ-loop
-index-2-t18 c = omega arith
+row-5 : (c : tie.After-conjugate-row2) → RowOf (c .before .before .before .before .before .before .before .before .before .before .before .before .before .before .before .before .before .before .before .before .before .before .before .before .before .args .x) 5 (c .conjugate-row2 .result)
+row-5 c = conjugated (c .before .before .before .before .before .before .before .before .before .before .before .before .before .before .before .before .before .before .before .before .before .before .before .before .before .pre .0) 5 (lit< tt) (lit< tt) refl (row-1 (c .before .before .before .before)) (c .conjugate-row2 .ensures)
 
-mul-t21 : tie.Need-mul-t21 Inv-loop μ-loop
-mul-t21 c = omega arith
+row-7 : (c : tie.After-conjugate-row3) → RowOf (c .before .before .before .before .before .before .before .before .before .before .before .before .before .before .before .before .before .before .before .before .before .before .before .before .before .before .before .before .before .args .x) 7 (c .conjugate-row3 .result)
+row-7 c = conjugated (c .before .before .before .before .before .before .before .before .before .before .before .before .before .before .before .before .before .before .before .before .before .before .before .before .before .before .before .before .before .pre .0) 7 (lit< tt) (lit< tt) refl (row-5 (c .before .before .before .before)) (c .conjugate-row3 .ensures)
 
-index-1-t24 : tie.Need-index-1-t24 Inv-loop μ-loop
-index-1-t24 c = omega arith
+row-3 : (c : tie.After-conjugate-row4) → RowOf (c .before .before .before .before .before .before .before .before .before .before .before .before .before .before .before .before .before .before .before .before .before .before .before .before .before .before .before .before .before .before .before .before .before .args .x) 3 (c .conjugate-row4 .result)
+row-3 c = conjugated (c .before .before .before .before .before .before .before .before .before .before .before .before .before .before .before .before .before .before .before .before .before .before .before .before .before .before .before .before .before .before .before .before .before .pre .0) 3 (lit< tt) (lit< tt) refl (row-7 (c .before .before .before .before)) (c .conjugate-row4 .ensures)
 
-index-2-t24 : tie.Need-index-2-t24 Inv-loop μ-loop
-index-2-t24 c = omega arith
-
-mul-t27 : tie.Need-mul-t27 Inv-loop μ-loop
-mul-t27 c = omega arith
-
-index-1-t30 : tie.Need-index-1-t30 Inv-loop μ-loop
-index-1-t30 c = omega arith
-
-index-2-t30 : tie.Need-index-2-t30 Inv-loop μ-loop
-index-2-t30 c = omega arith
-
-mul-t33 : tie.Need-mul-t33 Inv-loop μ-loop
-mul-t33 c = omega arith
-
-index-1-t36 : tie.Need-index-1-t36 Inv-loop μ-loop
-index-1-t36 c = omega arith
-
-index-2-t36 : tie.Need-index-2-t36 Inv-loop μ-loop
-index-2-t36 c = omega arith
-
-mul-t39 : tie.Need-mul-t39 Inv-loop μ-loop
-mul-t39 c = omega arith
-
-index-1-t42 : tie.Need-index-1-t42 Inv-loop μ-loop
-index-1-t42 c = omega arith
-
-index-2-t42 : tie.Need-index-2-t42 Inv-loop μ-loop
-index-2-t42 c = omega arith
-
-mul-t45 : tie.Need-mul-t45 Inv-loop μ-loop
-mul-t45 c = omega arith
-
-index-1-t48 : tie.Need-index-1-t48 Inv-loop μ-loop
-index-1-t48 c = omega arith
-
-index-2-t48 : tie.Need-index-2-t48 Inv-loop μ-loop
-index-2-t48 c = omega arith
-
-mul-t51 : tie.Need-mul-t51 Inv-loop μ-loop
-mul-t51 c = omega arith
-
-index-1-t54 : tie.Need-index-1-t54 Inv-loop μ-loop
-index-1-t54 c = omega arith
-
-index-2-t54 : tie.Need-index-2-t54 Inv-loop μ-loop
-index-2-t54 c = omega arith
-
-step-requires : tie.Need-step-requires Inv-loop μ-loop
-step-requires c κs =
-    let loop = c .before .before .before .before .before .before .before .before .before in
-    room-across (loop .before .args .t1) (loop .loop .u) (omega arith) (loop .before .pre .0)
-
-store-row-requires : tie.Need-store-row-requires Inv-loop μ-loop
-store-row-requires c κs = (omega arith, c .before .before .before .before .before .before .before .before .before .before .before .loop .inv .each .size)
-
-add-u : tie.Need-add-u Inv-loop μ-loop
-add-u c = omega arith
-
-loop-less : tie.Need-loop-less Inv-loop μ-loop
-loop-less c = omega arith
-
-loop-again : tie.Need-loop-again Inv-loop μ-loop
-loop-again c =
-    let at = c .before .before .before .before .before .before .before .before .before .before .before .before .before in
-    let x = at .before .args .t1 in
-    let u = at .loop .u in
-    let made = stepped-across x u (omega arith) (c .before .before .before .step .ensures) in
-    filled-row (omega arith) (at .loop .inv) (c .before .store-row .ensures)
-    (λ i q.
-    let r : i / 8 / 8 ≡ u = omega arith in
-    ap (λ a. component a (i % 8)) (made .at (i / 8 % 8) (omega arith))
-    ∙ ap (λ (r : ℕ). component (step (λ j. entry (row x j) r) (i / 8 % 8)) (i % 8)) (sym r))
-
-same-length : tie.Need-same-length Inv-loop μ-loop
-same-length c = c .before .loop .inv .each .size ∙ sym (c .before .before .pre .1)
-
-returns : tie.Need-returns Inv-loop μ-loop
-returns c = filled-all (omega arith) (c .before .loop .inv)
+returns : tie.Need-returns
+returns c =
+    let x = c .before .before .before .before .before .before .before .before .before .before .before .before .before .before .before .before .before .before .before .before .before .before .before .before .before .before .before .before .before .before .before .before .before .before .before .before .args .x in
+    let stored = parts-none {part = λ i. i / 64} {f = component-of x} (c .before .before .before .before .before .before .before .before .before .before .before .before .before .before .before .before .before .before .before .before .before .before .before .before .before .before .before .before .before .before .before .before .before .before .before .before .pre .1) in
+    let stored0 = parts-more 0 stored (c .before .before .before .before .before .before .before .before .before .before .before .before .before .before .before .before .before .before .before .before .before .before .before .before .before .before .before .before .before .before .before .before .store-row .ensures) (λ i h. in-row x 0 (row-0 (c .before .before .before .before .before .before .before .before .before .before .before .before .before .before .before .before .before .before .before .before .before .before .before .before .before .before .before .before .before .before .before .before .before .before)) i) in
+    let stored4 = parts-more 4 stored0 (c .before .before .before .before .before .before .before .before .before .before .before .before .before .before .before .before .before .before .before .before .before .before .before .before .before .before .before .store-row2 .ensures) (λ i h. in-row x 4 (row-4 (c .before .before .before .before .before .before .before .before .before .before .before .before .before .before .before .before .before .before .before .before .before .before .before .before .before .before .before .before .before)) i) in
+    let stored6 = parts-more 6 stored4 (c .before .before .before .before .before .before .before .before .before .before .before .before .before .before .before .before .before .before .before .before .before .before .store-row3 .ensures) (λ i h. in-row x 6 (row-6 (c .before .before .before .before .before .before .before .before .before .before .before .before .before .before .before .before .before .before .before .before .before .before .before .before)) i) in
+    let stored2 = parts-more 2 stored6 (c .before .before .before .before .before .before .before .before .before .before .before .before .before .before .before .before .before .before .store-row4 .ensures) (λ i h. in-row x 2 (row-2 (c .before .before .before .before .before .before .before .before .before .before .before .before .before .before .before .before .before .before .before .before)) i) in
+    let stored1 = parts-more 1 stored2 (c .before .before .before .before .before .before .before .before .before .before .before .before .before .store-row5 .ensures) (λ i h. in-row x 1 (row-1 (c .before .before .before .before .before .before .before .before .before .before .before .before .before .before .before)) i) in
+    let stored5 = parts-more 5 stored1 (c .before .before .before .before .before .before .before .before .before .store-row6 .ensures) (λ i h. in-row x 5 (row-5 (c .before .before .before .before .before .before .before .before .before .before .before)) i) in
+    let stored7 = parts-more 7 stored5 (c .before .before .before .before .before .store-row7 .ensures) (λ i h. in-row x 7 (row-7 (c .before .before .before .before .before .before .before)) i) in
+    let stored3 = parts-more 3 stored7 (c .before .store-row8 .ensures) (λ i h. in-row x 3 (row-3 (c .before .before .before)) i) in
+    parts-all 8 tt (λ i h. omega arith) stored3
 
 pub rows-spec : {M : Type 1} → statement M
 rows-spec =
     tie.close
-    (tie.spec Inv-loop μ-loop loop-holds mul-t9 index-1-t12 index-2-t12 mul-t15 index-1-t18 index-2-t18 mul-t21 index-1-t24 index-2-t24 mul-t27
-    index-1-t30 index-2-t30 mul-t33 index-1-t36 index-2-t36 mul-t39 index-1-t42 index-2-t42 mul-t45 index-1-t48 index-2-t48 mul-t51
-    index-1-t54 index-2-t54 step-requires store-row-requires add-u loop-less loop-again same-length returns)
+    (tie.spec
+    (λ c κs. lit< tt)
+    (λ c κs. (room-across (c .before .pre .0) 0 (lit< tt) (c .across .ensures), counts-across (c .before .pre .0) 0 (lit< tt) (c .across .ensures) 0 fours (spanned .0)))
+    (λ c κs. (lit< tt, (c .before .before .before .pre .1))) (λ c κs. lit< tt)
+    (λ c κs. (room-across (c .before .before .before .before .before .before .pre .0) 4 (lit< tt) (c .across2 .ensures), counts-across (c .before .before .before .before .before .before .pre .0) 4 (lit< tt) (c .across2 .ensures) 0 fours (spanned .1)))
+    (λ c κs. (lit< tt, (sized (c .before .before .before .before .store-row .ensures) (c .before .before .before .before .before .before .before .before .pre .1)))) (λ c κs. lit< tt)
+    (λ c κs. (room-across (c .before .before .before .before .before .before .before .before .before .before .before .pre .0) 6 (lit< tt) (c .across3 .ensures), counts-across (c .before .before .before .before .before .before .before .before .before .before .before .pre .0) 6 (lit< tt) (c .across3 .ensures) 1 twos (spanned .2)))
+    (λ c κs. (lit< tt, (sized (c .before .before .before .before .store-row2 .ensures) (sized (c .before .before .before .before .before .before .before .before .before .store-row .ensures) (c .before .before .before .before .before .before .before .before .before .before .before .before .before .pre .1)))))
+    (λ c κs. room-stepped (c .before .before .before .before .before .before .before .before .before .before .before .before .before .before .before .pre .0) 6 (lit< tt) (row-6 (c .before .before .before)))
+    (λ c κs. (lit< tt, (sized (c .before .before .before .store-row3 .ensures) (sized (c .before .before .before .before .before .before .before .before .store-row2 .ensures) (sized (c .before .before .before .before .before .before .before .before .before .before .before .before .before .store-row .ensures) (c .before .before .before .before .before .before .before .before .before .before .before .before .before .before .before .before .before .pre .1))))))
+    (λ c κs. lit< tt)
+    (λ c κs. (room-across (c .before .before .before .before .before .before .before .before .before .before .before .before .before .before .before .before .before .before .before .before .pre .0) 1 (lit< tt) (c .across4 .ensures), counts-across (c .before .before .before .before .before .before .before .before .before .before .before .before .before .before .before .before .before .before .before .before .pre .0) 1 (lit< tt) (c .across4 .ensures) 3 odds (spanned .3)))
+    (λ c κs. (lit< tt, (sized (c .before .before .before .before .store-row4 .ensures) (sized (c .before .before .before .before .before .before .before .before .store-row3 .ensures) (sized (c .before .before .before .before .before .before .before .before .before .before .before .before .before .store-row2 .ensures) (sized (c .before .before .before .before .before .before .before .before .before .before .before .before .before .before .before .before .before .before .store-row .ensures) (c .before .before .before .before .before .before .before .before .before .before .before .before .before .before .before .before .before .before .before .before .before .before .pre .1)))))))
+    (λ c κs. room-stepped (c .before .before .before .before .before .before .before .before .before .before .before .before .before .before .before .before .before .before .before .before .before .before .before .before .pre .0) 1 (lit< tt) (row-1 (c .before .before .before)))
+    (λ c κs. (lit< tt, (sized (c .before .before .before .store-row5 .ensures) (sized (c .before .before .before .before .before .before .before .before .store-row4 .ensures) (sized (c .before .before .before .before .before .before .before .before .before .before .before .before .store-row3 .ensures) (sized (c .before .before .before .before .before .before .before .before .before .before .before .before .before .before .before .before .before .store-row2 .ensures) (sized (c .before .before .before .before .before .before .before .before .before .before .before .before .before .before .before .before .before .before .before .before .before .before .store-row .ensures) (c .before .before .before .before .before .before .before .before .before .before .before .before .before .before .before .before .before .before .before .before .before .before .before .before .before .before .pre .1))))))))
+    (λ c κs. room-stepped (c .before .before .before .before .before .before .before .before .before .before .before .before .before .before .before .before .before .before .before .before .before .before .before .before .before .before .before .before .pre .0) 5 (lit< tt) (row-5 (c .before .before .before)))
+    (λ c κs. (lit< tt, (sized (c .before .before .before .store-row6 .ensures) (sized (c .before .before .before .before .before .before .before .store-row5 .ensures) (sized (c .before .before .before .before .before .before .before .before .before .before .before .before .store-row4 .ensures) (sized (c .before .before .before .before .before .before .before .before .before .before .before .before .before .before .before .before .store-row3 .ensures) (sized (c .before .before .before .before .before .before .before .before .before .before .before .before .before .before .before .before .before .before .before .before .before .store-row2 .ensures) (sized (c .before .before .before .before .before .before .before .before .before .before .before .before .before .before .before .before .before .before .before .before .before .before .before .before .before .before .store-row .ensures) (c .before .before .before .before .before .before .before .before .before .before .before .before .before .before .before .before .before .before .before .before .before .before .before .before .before .before .before .before .before .before .pre .1)))))))))
+    (λ c κs. room-stepped (c .before .before .before .before .before .before .before .before .before .before .before .before .before .before .before .before .before .before .before .before .before .before .before .before .before .before .before .before .before .before .before .before .pre .0) 7 (lit< tt) (row-7 (c .before .before .before)))
+    (λ c κs. (lit< tt, (sized (c .before .before .before .store-row7 .ensures) (sized (c .before .before .before .before .before .before .before .store-row6 .ensures) (sized (c .before .before .before .before .before .before .before .before .before .before .before .store-row5 .ensures) (sized (c .before .before .before .before .before .before .before .before .before .before .before .before .before .before .before .before .store-row4 .ensures) (sized (c .before .before .before .before .before .before .before .before .before .before .before .before .before .before .before .before .before .before .before .before .store-row3 .ensures) (sized (c .before .before .before .before .before .before .before .before .before .before .before .before .before .before .before .before .before .before .before .before .before .before .before .before .before .store-row2 .ensures) (sized (c .before .before .before .before .before .before .before .before .before .before .before .before .before .before .before .before .before .before .before .before .before .before .before .before .before .before .before .before .before .before .store-row .ensures) (c .before .before .before .before .before .before .before .before .before .before .before .before .before .before .before .before .before .before .before .before .before .before .before .before .before .before .before .before .before .before .before .before .before .before .pre .1))))))))))
+    (λ c. (sized (c .before .store-row8 .ensures) (sized (c .before .before .before .before .before .store-row7 .ensures) (sized (c .before .before .before .before .before .before .before .before .before .store-row6 .ensures) (sized (c .before .before .before .before .before .before .before .before .before .before .before .before .before .store-row5 .ensures) (sized (c .before .before .before .before .before .before .before .before .before .before .before .before .before .before .before .before .before .before .store-row4 .ensures) (sized (c .before .before .before .before .before .before .before .before .before .before .before .before .before .before .before .before .before .before .before .before .before .before .store-row3 .ensures) (sized (c .before .before .before .before .before .before .before .before .before .before .before .before .before .before .before .before .before .before .before .before .before .before .before .before .before .before .before .store-row2 .ensures) (sized (c .before .before .before .before .before .before .before .before .before .before .before .before .before .before .before .before .before .before .before .before .before .before .before .before .before .before .before .before .before .before .before .before .store-row .ensures) (c .before .before .before .before .before .before .before .before .before .before .before .before .before .before .before .before .before .before .before .before .before .before .before .before .before .before .before .before .before .before .before .before .before .before .before .before .pre .1))))))))) ∙ sym (c .before .before .before .before .before .before .before .before .before .before .before .before .before .before .before .before .before .before .before .before .before .before .before .before .before .before .before .before .before .before .before .before .before .before .before .before .pre .1))
+    returns)

@@ -16,30 +16,12 @@ abbrev μ-loop : tie.MeasureT-loop
 loop-holds : tie.Need-loop-holds Inv-loop μ-loop
 loop-holds c = row-none
 
-mul-put : tie.Need-mul-put Inv-loop μ-loop
-mul-put c = omega arith
-
-add-put : tie.Need-add-put Inv-loop μ-loop
-add-put c = omega arith
-
-mul-put-2 : tie.Need-mul-put-2 Inv-loop μ-loop
-mul-put-2 c = omega arith
-
-array-copy-out-put : tie.Need-array-copy-out-put Inv-loop μ-loop
-array-copy-out-put c = omega arith
-
 put-requires : tie.Need-put-requires Inv-loop μ-loop
 put-requires c κs =
     let at = c .before .before .before in
     let start = at .before in
     let fits : 8 * (8 * start .args .u + at .loop .v) + 8 ≤ length (at .loop .elements) = rw (at .loop .inv .size, start .pre .1) (omega arith) in
     fits
-
-add-v : tie.Need-add-v Inv-loop μ-loop
-add-v c = omega arith
-
-loop-less : tie.Need-loop-less Inv-loop μ-loop
-loop-less c = omega arith
 
 loop-again : tie.Need-loop-again Inv-loop μ-loop
 loop-again c =
@@ -55,4 +37,5 @@ returns c = row-all (omega arith) (c .before .loop .inv)
 pub store-row-spec : {M : Type 1} → statement M
 store-row-spec =
     tie.close
-    (tie.spec Inv-loop μ-loop loop-holds mul-put add-put mul-put-2 array-copy-out-put put-requires add-v loop-less loop-again same-length returns)
+    (tie.spec Inv-loop μ-loop loop-holds (λ c. omega arith) (λ c. omega arith) (λ c. omega arith) (λ c. omega arith) put-requires (λ c. omega arith)
+    (λ c. omega arith) loop-again same-length returns)

@@ -2,7 +2,6 @@
 -- Assumes nothing.
 use mathlib.Core.Path.{ap₂}
 use borrow.Author.Needs.{needs}
-use Rattle.answers.specs.Answer.{Returned}
 use Rattle.weld_dct.proofs.told.Statement.{statement}
 use Rattle.weld_dct.proofs.told.Tie as tie
 

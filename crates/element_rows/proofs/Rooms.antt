@@ -1,0 +1,116 @@
+-- Rows of elements: how far the operations let them grow, and arrays that are written out.
+-- Assumes nothing.
+use mathlib.Core.Path.{_≡_, refl}
+use mathlib.Core.List.{List, [], _∷_}
+use Prim.Native.Nat.{ℕ, zero, suc, _+_, _*_, _%_, _≤_, _<_}
+use native.Mathlib.Omega.{arith}
+use lib.IntN.{ℤ, pos, negsuc, negℤ, natAbs}
+use Rattle.integers.specs.Sum.{sum}
+use Rattle.integers.proofs.Magnitudes.{natAbs-neg}
+use Rattle.ring.specs.Element.{component, add, subtract, only, number, cosine, mul}
+use Rattle.ring.specs.Maps.{part, conjugate, dot}
+use Rattle.ring.proofs.Components.{Eight, eight-add, eight-scale, eight-mul, eight-only, eight-cosine, eight-sum}
+use Rattle.ring.proofs.Conjugates.{conjugate-components}
+use Rattle.elements.specs.declared.Element.{Element}
+use Rattle.elements.specs.Bound.{Within}
+use Rattle.elements.specs.Buffer.{Row, Rows, entry, row}
+use Rattle.element_rows.specs.Room.{Small, Room}
+use Rattle.element_rows.specs.Angle.{index, signed}
+use Rattle.element_rows.proofs.Angles.{signed-size, number-times, dot-is}
+use Rattle.elements.proofs.Bounds.{within-le, within-nil, within-cons, within-only, within-cosine}
+use Rattle.elements.proofs.Componentwise.{within-add, within-subtract, within-sum}
+
+pub eights : {B : ℕ} {a : List ℤ} → Small B a → Eight a
+eights s = record { eight = s .eight }
+
+small : {B : ℕ} {a : List ℤ} → Eight a → Within B a → Small B a
+small e w = record { eight = e .eight; within = w }
+
+pub small-le : {A B : ℕ} {a : List ℤ} → A ≤ B → Small A a → Small B a
+small-le l s = record { eight = s .eight; within = within-le l (s .within) }
+
+pub small-add : {A B : ℕ} {a b : List ℤ} → Small A a → Small B b → Small (A + B) (add a b)
+small-add p q = small (eight-add (eights p) (eights q)) (within-add (p .within) (q .within))
+
+pub small-subtract : {A B : ℕ} {a b : List ℤ} → Small A a → Small B b → Small (A + B) (subtract a b)
+small-subtract p q = small (eight-add (eights p) (eight-scale (negsuc 0) (eights q))) (within-subtract (p .within) (q .within))
+
+pub small-conjugate : {B : ℕ} {a : List ℤ} → Small B a → Small B (conjugate a)
+small-conjugate {B} {a} p =
+    rw (conjugate-components (eights p))
+    (record { eight = refl; within = same 0 (negative 3 (same 6 (same 7 (negative 4 (same 1 (negative 2 (same 5 within-nil))))))) })
+  where
+    same : (k : ℕ) {l : List ℤ} → Within B l → Within B (component a k ∷ l)
+    same k = within-cons (p .within .within k)
+
+    negative : (k : ℕ) {l : List ℤ} → Within B l → Within B (negℤ (component a k) ∷ l)
+    negative k = within-cons (rw (natAbs-neg (component a k)) (p .within .within k))
+
+pub small-cosine : (m : ℤ) {B : ℕ} {a : List ℤ} → Small B a → Small (B + B) (mul (cosine m) a)
+small-cosine m p = small (eight-mul (eight-cosine m) (eights p)) (within-cosine m (eights p) (p .within))
+
+pub small-sum : (n B : ℕ) (f : ℕ → List ℤ) → 0 < n → ((k : ℕ) → k < n → Small B (f k)) → Small (n * B) (sum [] add n f)
+small-sum n B f some s = small (eight-sum n f some (λ k h. eights (s k h))) (within-sum n B f (λ k h. s k h .within))
+
+-- whole numbers
+
+small-only : {B : ℕ} (s : ℤ) (k : ℕ) → natAbs s ≤ B → Small B (only s k)
+small-only s k l = small (eight-only s k) (within-le l (within-only s k))
+
+pub small-number : {B : ℕ} (s : ℤ) → natAbs s ≤ B → Small B (number s)
+small-number s = small-only s 0
+
+pub small-part : {B : ℕ} {a : List ℤ} (k : ℕ) → Small B a → Small B (part a k)
+small-part {a = a} k p = small-number (component a k) (p .within .within k)
+
+-- a product of one with a cosine needs no more
+pub small-number-times : {B : ℕ} {a : List ℤ} (m : ℕ) → 0 < m % 8 → Small B a → Small B (mul (part a 0) (cosine (pos m)))
+small-number-times {a = a} m h p =
+    rw (← number-times m h (component a 0)) (small-only (signed (component a 0) m) (index m) (rw (signed-size (component a 0) m) (p .within .within 0)))
+
+pub small-dot : {B : ℕ} {a : List ℤ} (m : ℕ) → 0 < m % 8 → Small B a → natAbs (dot a (cosine (pos m))) ≤ B
+small-dot {a = a} m h p = rw (← dot-is m h (eights p), signed-size (component a (index m)) m) (p .within .within (index m))
+
+-- an array that is written out
+
+pub row-4 : {f : ℕ → List ℤ} {a b c d : Element} → a .components ≡ f 0 → b .components ≡ f 1 → c .components ≡ f 2 → d .components ≡ f 3
+    → Row 4 f (a ∷ b ∷ c ∷ d ∷ [])
+row-4 {f} {a} {b} {c} {d} p q r s = record { at = go }
+  where
+    go : (i : ℕ) → i < 4 → entry (a ∷ b ∷ c ∷ d ∷ []) i ≡ f i
+    go zero h = p
+    go (suc zero) h = q
+    go (suc (suc zero)) h = r
+    go (suc (suc (suc zero))) h = s
+    go (suc (suc (suc (suc i)))) h = absurd (omega arith)
+
+pub row-8 : {f : ℕ → List ℤ} {a b c d e g h i : Element} → a .components ≡ f 0 → b .components ≡ f 1 → c .components ≡ f 2 → d .components ≡ f 3
+    → e .components ≡ f 4 → g .components ≡ f 5 → h .components ≡ f 6 → i .components ≡ f 7 → Row 8 f (a ∷ b ∷ c ∷ d ∷ e ∷ g ∷ h ∷ i ∷ [])
+row-8 {f} {a} {b} {c} {d} {e} {g} {h} {i} p q r s t u v w = record { at = go }
+  where
+    go : (k : ℕ) → k < 8 → entry (a ∷ b ∷ c ∷ d ∷ e ∷ g ∷ h ∷ i ∷ []) k ≡ f k
+    go zero l = p
+    go (suc zero) l = q
+    go (suc (suc zero)) l = r
+    go (suc (suc (suc zero))) l = s
+    go (suc (suc (suc (suc k)))) l = row-4 {f = λ k. f (suc (suc (suc (suc k))))} {a = e} {b = g} {c = h} {d = i} t u v w .at k (omega arith)
+
+-- eight rows
+pub rows-8 : {f : ℕ → ℕ → List ℤ} {a b c d e g h i : List Element} → Row 8 (f 0) a → Row 8 (f 1) b → Row 8 (f 2) c → Row 8 (f 3) d → Row 8 (f 4) e
+    → Row 8 (f 5) g → Row 8 (f 6) h → Row 8 (f 7) i → Rows f (a ∷ b ∷ c ∷ d ∷ e ∷ g ∷ h ∷ i ∷ [])
+rows-8 {f} {a} {b} {c} {d} {e} {g} {h} {i} p q r s t u v w = record { at = go }
+  where
+    go : (k : ℕ) → k < 8 → Row 8 (f k) (row (a ∷ b ∷ c ∷ d ∷ e ∷ g ∷ h ∷ i ∷ []) k)
+    go zero l = p
+    go (suc zero) l = q
+    go (suc (suc zero)) l = r
+    go (suc (suc (suc zero))) l = s
+    go (suc (suc (suc (suc zero)))) l = t
+    go (suc (suc (suc (suc (suc zero))))) l = u
+    go (suc (suc (suc (suc (suc (suc zero)))))) l = v
+    go (suc (suc (suc (suc (suc (suc (suc zero))))))) l = w
+    go (suc (suc (suc (suc (suc (suc (suc (suc k)))))))) l = absurd (omega arith)
+
+-- a row of elements that are known is as small as these
+pub row-room : {m B : ℕ} {f : ℕ → List ℤ} {l : List Element} → Row m f l → ((i : ℕ) → i < m → Small B (f i)) → Room m B l
+row-room R s = record { small = λ i h. rw (R .at i h) (s i h) }

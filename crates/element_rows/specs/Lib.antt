@@ -1,0 +1,2 @@
+pub mod Angle
+pub mod Room

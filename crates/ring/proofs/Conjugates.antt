@@ -1,0 +1,75 @@
+-- Conjugation is an automorphism of the ring: it is linear, it takes products to products, it fixes the whole numbers, and eight of it change nothing.
+-- Assumes nothing.
+use mathlib.Core.Path.{_≡_, sym, ap, _∙_}
+use mathlib.Core.Bool.{Bool}
+use mathlib.Core.List.{List, [], _∷_}
+use Prim.Native.Nat.{ℕ, _<_}
+use lib.Dec.{T}
+use lib.IntN.{ℤ, pos, negℤ, +ℤ-idl, +ℤ-idr, *ℤ-zero}
+use Rattle.integers.specs.Table.{table}
+use Rattle.integers.specs.Test.{every, eqList}
+use Rattle.integers.proofs.Integer.{*ℤ-pos1, *ℤ-minus-one}
+use Rattle.integers.proofs.Tests.{every-at, every₂, every₂-at, eqList→≡}
+use Rattle.ring.specs.Element.{component, only, number, cosine, basis-product, mul}
+use Rattle.ring.specs.Maps.{fivefold, conjugate}
+use Rattle.ring.proofs.Linear.{LinearMap, linear-self, linear-after, linear-combination}
+use Rattle.ring.proofs.Product.{mul-left, mul-right}
+use Rattle.ring.proofs.Components.{Eight, by-components, linear-same}
+use Rattle.ring.proofs.Ring.{scale-number}
+
+pub linear-conjugate : LinearMap conjugate
+unfolding conjugate
+linear-conjugate = linear-combination fivefold
+
+-- products: by a test over the basis elements, and linearity
+
+pair-at : ℕ → ℕ → Bool
+pair-at i j = eqList (conjugate (mul (only (pos 1) i) (only (pos 1) j))) (mul (conjugate (only (pos 1) i)) (conjugate (only (pos 1) j)))
+
+pair-test : T (every₂ 8 pair-at)
+unfolding pair-at conjugate cosine basis-product mul
+pair-test = tt
+
+pub conjugate-product : {a b : List ℤ} → Eight a → Eight b → conjugate (mul a b) ≡ mul (conjugate a) (conjugate b)
+unfolding pair-at
+conjugate-product {a} {b} p q =
+    linear-same (λ y. conjugate (mul a y)) (λ y. mul (conjugate a) (conjugate y)) (linear-after linear-conjugate (mul-right a))
+    (linear-after (mul-right (conjugate a)) linear-conjugate) (λ j h. basis j h) q
+  where
+    basis : (j : ℕ) → j < 8 → conjugate (mul a (only (pos 1) j)) ≡ mul (conjugate a) (conjugate (only (pos 1) j))
+    basis j h =
+        let c = only (pos 1) j in
+        linear-same (λ x. conjugate (mul x c)) (λ x. mul (conjugate x) (conjugate c)) (linear-after linear-conjugate (mul-left c))
+        (linear-after (mul-left (conjugate c)) linear-conjugate) (λ i l. eqList→≡ _ _ (every₂-at 8 pair-at pair-test i j l h)) p
+
+pub conjugate-number : (s : ℤ) → conjugate (number s) ≡ number s
+unfolding conjugate cosine
+conjugate-number s =
+    ap conjugate (sym (scale-number s (pos 1) ∙ ap number (*ℤ-pos1 s))) ∙ linear-conjugate .multiples s (number (pos 1)) ∙ scale-number s (pos 1)
+    ∙ ap number (*ℤ-pos1 s)
+
+-- component by component
+conjugate-table : (u : ℕ → ℤ) → conjugate (table 8 u) ≡ u 0 ∷ negℤ (u 3) ∷ u 6 ∷ u 7 ∷ negℤ (u 4) ∷ u 1 ∷ negℤ (u 2) ∷ u 5 ∷ []
+unfolding conjugate cosine
+conjugate-table u = simp (*ℤ-zero, *ℤ-pos1, *ℤ-minus-one, +ℤ-idl, +ℤ-idr)
+
+pub conjugate-components : {a : List ℤ} → Eight a → conjugate a
+    ≡ component a 0 ∷ negℤ (component a 3) ∷ component a 6 ∷ component a 7 ∷ negℤ (component a 4) ∷ component a 1 ∷ negℤ (component a 2) ∷ component a 5 ∷ []
+conjugate-components {a} e = ap conjugate (by-components e) ∙ conjugate-table (component a)
+
+-- it has an inverse: seven more of it
+
+abbrev four-times : List ℤ → List ℤ
+four-times a = conjugate (conjugate (conjugate (conjugate a)))
+
+linear-four-times : LinearMap four-times
+linear-four-times = let twice = linear-after linear-conjugate linear-conjugate in linear-after twice twice
+
+basis-test : T (every 8 (λ k. eqList (four-times (four-times (only (pos 1) k))) (only (pos 1) k)))
+unfolding conjugate cosine
+basis-test = tt
+
+pub conjugate-eight-times : {a : List ℤ} → Eight a → four-times (four-times a) ≡ a
+conjugate-eight-times =
+    linear-same (λ a. four-times (four-times a)) (λ a. a) (linear-after linear-four-times linear-four-times) linear-self
+    (λ k h. eqList→≡ _ _ (every-at 8 (λ k. eqList (four-times (four-times (only (pos 1) k))) (only (pos 1) k)) basis-test k h))
