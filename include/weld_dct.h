@@ -6,8 +6,8 @@
  *
  * A buffer is a pointer and the count of its numbers. What the caller must see to, because no function can look at it: a pointer is valid
  * for its count of numbers, aligned, and not null, even where the count is 0; a buffer that is written overlaps no other buffer of the call.
- * The functions keep no state and may be called from any number of threads at once, each with buffers of its own. They do not allocate,
- * and none takes more than 12 KB of stack (measured).
+ * The functions keep no state and may be called from any number of threads at once, each with buffers of its own. They do not allocate, and
+ * none takes more than 8 KB of stack, which tests/run measures.
  *
  * Link libweld_dct.a. It needs memcpy and memset, and nothing else.
  */

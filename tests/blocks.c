@@ -72,11 +72,11 @@ static void check_block(const int32_t *samples) {
     expect(memcmp(came, samples, BLOCK * sizeof samples[0]) == 0, "a block's set goes back to another block");
 }
 
-/* 01's films, with the numbers that stand there. */
+/* 01's worked examples, with the numbers that stand there. */
 
-static void film_of_one_level(int32_t sample, int32_t u_0, int32_t coefficient) {
+static void example_of_one_level(int32_t sample, int32_t u_0, int32_t coefficient) {
     int32_t samples[BLOCK], others = 0;
-    begin("01's film of all %d", (int)sample);
+    begin("01's example of all %d", (int)sample);
     for (int q = 0; q < BLOCK; q++) samples[q] = sample;
     check_block(samples);
     for (int n = 1; n < SET; n++) others += elements[n] != 0;
@@ -87,10 +87,10 @@ static void film_of_one_level(int32_t sample, int32_t u_0, int32_t coefficient) 
     }
 }
 
-static void film_of_one_sample(void) {
+static void example_of_one_sample(void) {
     static const struct { int p; int32_t u[8]; } expected[] = {{0, {2}}, {1, {0, 0, 0, 1, 0, 1}}, {9, {2, 0, 1}}, {15, {0, 0, 0, 0, 0, 0, 1}}};
     int32_t samples[BLOCK] = {1};
-    begin("01's film of one sample");
+    begin("01's example of one sample");
     check_block(samples);
     for (size_t n = 0; n < COUNT(expected); n++)
         expect(memcmp(elements + 8 * expected[n].p, expected[n].u, sizeof expected[n].u) == 0, "the element at %d is another", expected[n].p);
@@ -99,9 +99,9 @@ static void film_of_one_sample(void) {
 }
 
 /* one component alone, at (0,0): the answers of rounding and back, and the coefficient of an accepted one */
-static void film_of_one_component(int k, int32_t component, uint32_t b, uint32_t rounded, int32_t coefficient, uint32_t returned) {
+static void example_of_one_component(int k, int32_t component, uint32_t b, uint32_t rounded, int32_t coefficient, uint32_t returned) {
     int32_t set[SET] = {0};
-    begin("01's film of u_%d = %d, b = %u", k, (int)component, (unsigned)b);
+    begin("01's example of u_%d = %d, b = %u", k, (int)component, (unsigned)b);
     set[k] = component;
     uint32_t number = round_number(set, b);
     expect(number == rounded, "round answers %u", (unsigned)number);
@@ -110,21 +110,21 @@ static void film_of_one_component(int k, int32_t component, uint32_t b, uint32_t
     expect(number == returned, "back answers %u", (unsigned)number);
 }
 
-static void films(void) {
+static void worked_examples(void) {
     int32_t samples[BLOCK] = {0};
-    film_of_one_level(1, 128, 64);
-    film_of_one_level(-2048, -262144, -131072);
-    film_of_one_level(2047, 262016, 131008);
-    film_of_one_sample();
-    film_of_one_component(2, 256, 11, 0, 237, 5);
-    film_of_one_component(2, -256, 11, 0, -236, 5);
+    example_of_one_level(1, 128, 64);
+    example_of_one_level(-2048, -262144, -131072);
+    example_of_one_level(2047, 262016, 131008);
+    example_of_one_sample();
+    example_of_one_component(2, 256, 11, 0, 237, 5);
+    example_of_one_component(2, -256, 11, 0, -236, 5);
     for (int w = 0; w < WIDTHS; w++) {
-        film_of_one_component(0, 262144, widths[w], 0, 131072, 5);
-        film_of_one_component(0, 262145, widths[w], 4, 0, 4);
-        film_of_one_component(0, 1, widths[w], 0, 1, 5);
+        example_of_one_component(0, 262144, widths[w], 0, 131072, 5);
+        example_of_one_component(0, 262145, widths[w], 4, 0, 4);
+        example_of_one_component(0, 1, widths[w], 0, 1, 5);
     }
     for (int sign = 0; sign < 2; sign++) {
-        begin("01's film of a sample out of range");
+        begin("01's example of a sample out of range");
         samples[7] = sign ? -2049 : 2048;
         Answer answer = check_forward(samples, BLOCK, SET);
         expect(answer.number == 2 && answer.place == 7, "forward answers %u at %zu", (unsigned)answer.number, answer.place);
@@ -442,7 +442,7 @@ static void report(void) {
 
 int main(void) {
     start("blocks");
-    films();
+    worked_examples();
     extremes();
     impulses();
     ramps();

@@ -213,9 +213,9 @@ static void set_length(Bytes *input, size_t length) {
 
 /* Cases. */
 
-/* 01's films of the program, byte for byte as they stand there */
+/* 01's worked examples of the program, byte for byte as they stand there */
 
-static void film_of_ones(size_t piece) {
+static void example_of_ones(size_t piece) {
     static Bytes input, wanted;
     input.length = wanted.length = 0;
     append(&input, 0x10004001);
@@ -231,7 +231,7 @@ static void film_of_ones(size_t piece) {
     compare_output(&input, piece, &wanted);
 }
 
-static void film_of_few_bytes(size_t length, size_t piece) {
+static void example_of_few_bytes(size_t length, size_t piece) {
     static Bytes few = {.bytes = {0x10, 0, 0x40}}, wanted;
     few.length = length;
     strcpy((char *)wanted.bytes, length == 0 ? "refused 6 at 0\n" : "refused 7 at 0\n");
@@ -241,11 +241,11 @@ static void film_of_few_bytes(size_t length, size_t piece) {
     compare_output(&few, piece, &wanted);
 }
 
-static void films(void) {
+static void worked_examples(void) {
     static const size_t pieces[] = {FROM_FILE, AT_ONCE, 1, 2, 3, 5, 7, 63, 255};
     for (size_t n = 0; n < COUNT(pieces); n++) {
-        film_of_ones(pieces[n]);
-        for (size_t length = 0; length < 4; length++) film_of_few_bytes(length, pieces[n]);
+        example_of_ones(pieces[n]);
+        for (size_t length = 0; length < 4; length++) example_of_few_bytes(length, pieces[n]);
     }
 }
 
@@ -390,7 +390,7 @@ int main(int argc, char **argv) {
     signal(SIGPIPE, SIG_IGN);
     input_file = tmpfile();
     expect(input_file != NULL, "no file for the input");
-    films();
+    worked_examples();
     for (int n = 2; n < argc; n++) read_example(argv[n]);
     sheet_cases(&(Job){check_words, WIDTH, LIMIT / 4});
     every_length();

@@ -54,7 +54,7 @@ fn combination(x: [i32; 4], m: [usize; 4]) -> Element {
 
 /// The 8-point step over whole numbers.
 #[inline(always)]
-fn number_step(x: Numbers) -> Row {
+fn integer_step(x: Numbers) -> Row {
     let s = from_fn(|n| x[n] + x[7 - n]);
     let d = from_fn(|n| x[n] - x[7 - n]);
     [
@@ -88,7 +88,7 @@ fn combination_back(x: [Element; 4], m: [usize; 4]) -> i32 {
 
 /// The transpose of the step over whole numbers.
 #[inline(always)]
-fn number_step_back(x: Row) -> Numbers {
+fn integer_step_back(x: Row) -> Numbers {
     let even = [x[0], x[2], x[4], x[6]];
     let odd = [x[1], x[3], x[5], x[7]];
     let s = [
@@ -109,13 +109,13 @@ fn number_step_back(x: Row) -> Numbers {
 /// What the components K of a row add to its step.
 #[inline(always)]
 fn class_step<const K: usize>(x: Numbers) -> Row {
-    number_step(x).map(Element::times::<K>)
+    integer_step(x).map(Element::times::<K>)
 }
 
 /// 16 times the components K of the row whose step this is.
 #[inline(always)]
 fn class_step_back<const K: usize>(row: Row) -> Numbers {
-    number_step_back(row.map(Element::times::<K>))
+    integer_step_back(row.map(Element::times::<K>))
 }
 
 /// A column of samples, from 16 times p0 + p1, p0 - p1, q0, q1, d0, d1, d2 and d3: rows 0 and 4 hold the first two, row 2
@@ -149,7 +149,7 @@ fn conjugate_row(row: Row) -> Row {
 /// The step over each column.
 #[inline(always)]
 fn columns(samples: &Samples) -> [Row; 8] {
-    let column = |j| number_step(from_fn(|i| samples[8 * i + j]));
+    let column = |j| integer_step(from_fn(|i| samples[8 * i + j]));
     [
         column(0),
         column(1),

@@ -161,8 +161,8 @@ impl Answer {
             numbers::NO_BLOCK => Err(Refusal::NoBlock),
             numbers::HEAD => Err(Refusal::Head),
             numbers::WORDS => Err(Refusal::Words(self.place)),
-            // No number but 8 is left: the library has no other.
-            _ => Err(Refusal::End(self.place)),
+            numbers::END => Err(Refusal::End(self.place)),
+            number => unreachable!("the library is proved to return 0 to 8, and not {number}"),
         }
     }
 }

@@ -2,24 +2,28 @@
 -- Assumes nothing.
 use mathlib.Core.Path.{_≡_, refl, sym, ap, _∙_}
 use mathlib.Core.Bool.{cond}
+use mathlib.Core.List.{List, [], _∷_}
 use lib.Dec.{eqb}
+use lib.ListN.{getD}
 use Rattle.answers.specs.declared.Answer.{Answer}
 use Rattle.answers.specs.declared.Answer.the-variants.{Accepted, Lengths, Sample, Width, Magnitudes, NoBlock, Head, Words, End}
 use Rattle.answers.specs.Answer.{Returned, returned}
 
--- the answer that has a number and a place
-abbrev answer-of : Returned → Answer
-answer-of r =
-    cond (eqb (r .number) 0) (Accepted (r .place))
-    (cond (eqb (r .number) 1) Lengths
-    (cond (eqb (r .number) 2) (Sample (r .place))
-    (cond (eqb (r .number) 3) Width
-    (cond (eqb (r .number) 4) (Magnitudes (r .place))
-    (cond (eqb (r .number) 5) NoBlock
-    (cond (eqb (r .number) 6) Head
-    (cond (eqb (r .number) 7) (Words (r .place)) (End (r .place)))))))))
+-- the answer that has a number and a place, and none where there is none
+abbrev answers-of : Returned → List Answer
+answers-of r =
+    cond (eqb (r .number) 0) (Accepted (r .place) ∷ [])
+    (cond (eqb (r .number) 1) (Lengths ∷ [])
+    (cond (eqb (r .number) 2) (Sample (r .place) ∷ [])
+    (cond (eqb (r .number) 3) (Width ∷ [])
+    (cond (eqb (r .number) 4) (Magnitudes (r .place) ∷ [])
+    (cond (eqb (r .number) 5) (NoBlock ∷ [])
+    (cond (eqb (r .number) 6) (Head ∷ [])
+    (cond (eqb (r .number) 7) (Words (r .place) ∷ [])
+    (cond (eqb (r .number) 8) (End (r .place) ∷ [])
+    []))))))))
 
-there-and-back : (a : Answer) → answer-of (returned a) ≡ a
+there-and-back : (a : Answer) → answers-of (returned a) ≡ a ∷ []
 there-and-back (Accepted n) = refl
 there-and-back Lengths = refl
 there-and-back (Sample i) = refl
@@ -31,4 +35,4 @@ there-and-back (Words n) = refl
 there-and-back (End i) = refl
 
 pub only-answer : (a b : Answer) → returned a ≡ returned b → a ≡ b
-only-answer a b e = sym (there-and-back a) ∙ ap answer-of e ∙ there-and-back b
+only-answer a b e = ap (λ l. getD l 0 a) (sym (there-and-back a) ∙ ap answers-of e ∙ there-and-back b)

@@ -1,3 +1,4 @@
--- What it means that a call is accepted, and that its number and place tell its answer.
-pub mod Accepted
+-- What a call returns and leaves by its causes, and that its number and place tell its answer.
+pub mod Causes
+pub mod Lengths
 pub mod Cases

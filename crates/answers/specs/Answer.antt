@@ -1,7 +1,9 @@
 -- What a call returns (01, "Why a set or sheet is turned back"): a number, which is 0 for an accepted call, and a place.
-use mathlib.Core.Bool.{Bool, cond}
-use Prim.Native.Nat.{ℕ}
-use lib.Dec.{ltb, eqb}
+use mathlib.Core.Path.{_≡_}
+use mathlib.Core.Bool.{Bool, true, false, cond}
+use mathlib.Core.List.{List, [], _∷_}
+use Prim.Native.Nat.{ℕ, _<_}
+use lib.Dec.{T, ltb, eqb}
 use Rattle.integers.specs.Search.{first}
 use Rattle.answers.specs.declared.Answer.{Answer}
 use Rattle.answers.specs.declared.Answer.the-variants.{Accepted, Lengths, Sample, Width, Magnitudes, NoBlock, Head, Words, End}
@@ -22,23 +24,29 @@ returned Head = record { number = 6; place = 0 }
 returned (Words n) = record { number = 7; place = n }
 returned (End i) = record { number = 8; place = i }
 
--- the order of causes: each is asked before the next
+-- the causes of a refusal, in the order in which a job asks for them
+
+pub data Cause : Type 0 where
+  -- what is returned where the test fails
+  test : Bool → Returned → Cause
+  -- what is returned where an index below the size is faulty, for the lowest such index
+  search : ℕ → (ℕ → Bool) → (ℕ → Returned) → Cause
 
 -- cause n at place p where the test fails
-abbrev pub unless-at : ℕ → Bool → ℕ → Returned → Returned
-unless-at p test n next = cond test next (record { number = n; place = p })
+abbrev pub unless-at : ℕ → Bool → ℕ → Cause
+unless-at p passes n = test passes (record { number = n; place = p })
 
 -- cause n at place 0 where the test fails
-abbrev pub unless : Bool → ℕ → Returned → Returned
+abbrev pub unless : Bool → ℕ → Cause
 unless = unless-at 0
 
 -- cause n at the lowest of the indices below `size` that is faulty
-abbrev pub lowest : ℕ → (ℕ → Bool) → ℕ → Returned → Returned
-lowest size faulty n next = cond (ltb (first size faulty) size) (record { number = n; place = first size faulty }) next
+abbrev pub lowest : ℕ → (ℕ → Bool) → ℕ → Cause
+lowest size faulty n = search size faulty (λ i. record { number = n; place = i })
 
 -- the cause at the lowest of the indices below `size` that has one: `cause i` is 0 where index i has none
-abbrev pub lowest-cause : ℕ → (ℕ → ℕ) → Returned → Returned
-lowest-cause size cause next = lowest size (λ i. ltb 0 (cause i)) (cause (first size (λ i. ltb 0 (cause i)))) next
+abbrev pub lowest-cause : ℕ → (ℕ → ℕ) → Cause
+lowest-cause size cause = search size (λ i. ltb 0 (cause i)) (λ i. record { number = cause i; place = i })
 
 -- no cause is left: "An accepted call returns 0 and place 0, a sheet 0 and the words written"
 
@@ -48,6 +56,12 @@ accept-words n = record { number = 0; place = n }
 abbrev pub accept : Returned
 accept = accept-words 0
 
+-- what a call returns: the first cause that holds, and `end` where none does
+abbrev pub answered : List Cause → Returned → Returned
+answered [] end = end
+answered (test passes refusal ∷ l) end = cond passes (answered l end) refusal
+answered (search size faulty refusal ∷ l) end = cond (ltb (first size faulty) size) (refusal (first size faulty)) (answered l end)
+
 -- the call is accepted
 abbrev pub accepted : Returned → Bool
 accepted r = eqb (r .number) 0
@@ -55,3 +69,33 @@ accepted r = eqb (r .number) 0
 -- what a call leaves in a buffer: its result if it is accepted, and otherwise what was there
 abbrev pub written : {A : Type 0} → Returned → A → A → A
 written r result was = cond (accepted r) result was
+
+-- why a call returns what it does, for the theorems: `some-reason` gives each call a reason, `only-reason` says that no other answer has one, and
+-- `excludes` that no cause both holds and does not
+
+-- a cause does not hold
+abbrev pub Passes : Cause → Type 0
+Passes (test passes refusal) = T passes
+Passes (search size faulty refusal) = (i : ℕ) → i < size → faulty i ≡ false
+
+-- a cause holds, and is named by r
+pub data Names : Cause → Returned → Type 0 where
+  fails : {passes : Bool} {refusal : Returned} → passes ≡ false → Names (test passes refusal) refusal
+  faulty-at : {size : ℕ} {faulty : ℕ → Bool} {refusal : ℕ → Returned} (i : ℕ) → i < size → ((j : ℕ) → j < i → faulty j ≡ false) → faulty i ≡ true
+      → Names (search size faulty refusal) (refusal i)
+
+-- the first cause that holds names r, and those before it do not hold; or none holds, and r is `end`
+pub data Reason (end : Returned) : List Cause → Returned → Type 0 where
+  holds : {c : Cause} {l : List Cause} {r : Returned} → Names c r → Reason end (c ∷ l) r
+  passes : {c : Cause} {l : List Cause} {r : Returned} → Passes c → Reason end l r → Reason end (c ∷ l) r
+  none-holds : Reason end [] end
+
+-- each of the causes has the property P
+abbrev pub Each : (Cause → Type 0) → List Cause → Type 0
+Each P [] = Unit {0}
+Each P (c ∷ l) = P c × Each P l
+
+-- the number of a refusal is not 0
+abbrev pub Numbered : Cause → Type 0
+Numbered (test t refusal) = 0 < refusal .number
+Numbered (search size faulty refusal) = (i : ℕ) → faulty i ≡ true → 0 < refusal i .number

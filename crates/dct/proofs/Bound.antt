@@ -17,7 +17,6 @@ use Rattle.ring.proofs.Product.{mul-left}
 use Rattle.ring.proofs.Components.{Eight}
 use Rattle.ring.proofs.Magnitude.{magnitudes-scale, magnitudes-sum, magnitudes-linear}
 use Rattle.ring.proofs.Ring.{mul-one}
-use Rattle.dct.specs.Limits.{sample-limit, magnitudes-limit}
 use Rattle.dct.specs.Transform.{factor, factors, element, Bounded}
 use Rattle.dct.proofs.Factors.{eight-factor, eight-factors, factors-place, sum-digits}
 
@@ -88,7 +87,3 @@ bound d S x h p =
 
     of : ℕ → ℕ
     of q = magnitudes (factors (suc d) p q)
-
--- 01's limits: two dimensions, samples of magnitude 2,048 at most, magnitudes that sum to at most 262,144
-pub bound-8-by-8 : (x : ℕ → ℤ) → Bounded 2 sample-limit x → (p : ℕ) → magnitudes (element 2 x p) ≤ magnitudes-limit
-bound-8-by-8 x h p = bound 1 sample-limit x h p

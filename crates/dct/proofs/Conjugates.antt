@@ -11,12 +11,12 @@ use lib.IntN.{ℤ, pos, _*ℤ_}
 use Rattle.integers.specs.Test.{every, eqList}
 use Rattle.integers.proofs.Sums.{sum-cong}
 use Rattle.integers.proofs.Tests.{every-at, every₂, every₂-at, eqList→≡}
-use Rattle.ring.specs.Element.{add, scale, number, cosine, mul}
+use Rattle.ring.specs.Element.{add, scale, integer, cosine, mul}
 use Rattle.ring.specs.Maps.{conjugate}
 use Rattle.ring.proofs.Linear.{scale-scale, scale-one, linear-after, linear-scale, linear-sum}
 use Rattle.ring.proofs.Product.{mul-left, mul-right}
 use Rattle.ring.proofs.Components.{Eight, eight-only}
-use Rattle.ring.proofs.Conjugates.{linear-conjugate, conjugate-product, conjugate-number}
+use Rattle.ring.proofs.Conjugates.{linear-conjugate, conjugate-product, conjugate-integer}
 use Rattle.dct.specs.Rows.{source, sign, conjugate-row, sources, signs}
 use Rattle.dct.specs.Transform.{factor, factors, element, step}
 use Rattle.dct.proofs.Factors.{eight-factor, eight-factors, factors-frequency, step-cong}
@@ -54,15 +54,15 @@ conjugate-step r eights k h =
         ap (scale s) (conjugate-product (eights n l) (eight-factor (source k) n)) ∙ sym (mul-right (conjugate (r n)) .multiples s (conjugate (t n)))
         ∙ ap (mul (conjugate (r n))) (factor-is k n h l)
 
-pub conjugate-numbers : (x : ℕ → ℤ) (k : ℕ) → k < 8 → conjugate-row (step (λ n. number (x n))) k ≡ step (λ n. number (x n)) k
-conjugate-numbers x k h =
-    conjugate-step (λ n. number (x n)) (λ n l. eight-only (x n) 0) k h ∙ step-cong (λ n. conjugate (number (x n))) (λ n. number (x n)) k (λ n l. conjugate-number (x n))
+pub conjugate-integers : (x : ℕ → ℤ) (k : ℕ) → k < 8 → conjugate-row (step (λ n. integer (x n))) k ≡ step (λ n. integer (x n)) k
+conjugate-integers x k h =
+    conjugate-step (λ n. integer (x n)) (λ n l. eight-only (x n) 0) k h ∙ step-cong (λ n. conjugate (integer (x n))) (λ n. integer (x n)) k (λ n l. conjugate-integer (x n))
 
 -- in d dimensions: an element of a block is, up to its sign, the conjugate of another
 
 factors-are : (d p q : ℕ) → scale (signs d p) (conjugate (factors d (sources d p) q)) ≡ factors d p q
 unfolding signs sources factors
-factors-are zero p q = ap (scale (pos 1)) (conjugate-number (pos 1)) ∙ scale-one (number (pos 1))
+factors-are zero p q = ap (scale (pos 1)) (conjugate-integer (pos 1)) ∙ scale-one (integer (pos 1))
 factors-are (suc d) p q =
     ap (λ a. scale (s *ℤ t) (conjugate a)) (factors-frequency d (sources d (p / 8)) (source (p % 8)) q (source-below (p % 8) (omega arith)))
     ∙ ap (scale (s *ℤ t)) (conjugate-product (eight-factors d (sources d (p / 8)) (q / 8)) (eight-factor (source (p % 8)) (q % 8)))

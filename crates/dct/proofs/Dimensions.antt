@@ -8,11 +8,11 @@ use native.Mathlib.Omega.{arith}
 use lib.IntN.{ℤ, pos}
 use Rattle.integers.specs.Sum.{sum}
 use Rattle.integers.proofs.Sums.{sum-cong, sum-swap}
-use Rattle.ring.specs.Element.{add, scale, number, cosine, mul}
+use Rattle.ring.specs.Element.{add, scale, integer, cosine, mul}
 use Rattle.ring.proofs.Linear.{LinearMap, elements, linear-sum, linear-scale, scale-scale}
 use Rattle.ring.proofs.Product.{mul-left, mul-right, mul-comm, mul-swap}
 use Rattle.ring.proofs.Components.{eight-cosine}
-use Rattle.ring.proofs.Ring.{mul-one, mul-number}
+use Rattle.ring.proofs.Ring.{mul-one, mul-integer}
 use Rattle.ring.proofs.Cosines.{cosine-0}
 use Rattle.dct.specs.Transform.{factor, factors, element, double-sum, step}
 use Rattle.dct.specs.T81.{twice-C, sixty-four-S}
@@ -23,7 +23,7 @@ pub last-dimension : (d : ℕ) (x : ℕ → ℤ) (p : ℕ) → element (suc d) x
 unfolding element step
 last-dimension d x p =
     sum-digits [] add elements d (λ q. scale (x q) (factors (suc d) p q))
-    ∙ sum-cong [] add (8 ^ d) _ _ (λ q h. sum-cong [] add 8 _ (λ n. term n q) (λ n l. entry q n l))
+    ∙ sum-cong [] add (8 ^ d) _ _ (λ q h. sum-cong [] add 8 _ (λ n. term n q) (λ n l. item q n l))
     ∙ sum-swap [] add elements (8 ^ d) 8 (λ q n. term n q)
     ∙ sum-cong [] add 8 _ _ (λ n l. sym (linear-sum (λ a. mul a (t n)) (mul-left (t n)) (8 ^ d) (λ q. scale (x (q * 8 + n)) (factors d (p / 8) q))))
   where
@@ -33,16 +33,16 @@ last-dimension d x p =
     term : ℕ → ℕ → List ℤ
     term n q = mul (scale (x (q * 8 + n)) (factors d (p / 8) q)) (t n)
 
-    entry : (q n : ℕ) → n < 8 → scale (x (q * 8 + n)) (factors (suc d) p (q * 8 + n)) ≡ term n q
-    entry q n l = ap (scale (x (q * 8 + n))) (factors-place d p q n l) ∙ sym (mul-left (t n) .multiples (x (q * 8 + n)) (factors d (p / 8) q))
+    item : (q n : ℕ) → n < 8 → scale (x (q * 8 + n)) (factors (suc d) p (q * 8 + n)) ≡ term n q
+    item q n l = ap (scale (x (q * 8 + n))) (factors-place d p q n l) ∙ sym (mul-left (t n) .multiples (x (q * 8 + n)) (factors d (p / 8) q))
 
 -- one dimension: a step over whole numbers
 
-pub first-dimension : (x : ℕ → ℤ) (k : ℕ) → k < 8 → element 1 x k ≡ step (λ n. number (x n)) k
+pub first-dimension : (x : ℕ → ℤ) (k : ℕ) → k < 8 → element 1 x k ≡ step (λ n. integer (x n)) k
 unfolding element step factors
-first-dimension x k h = sum-cong [] add 8 _ _ (λ n l. ap (scale (x n)) (term n l) ∙ sym (mul-number (x n) (eight-factor k n)))
+first-dimension x k h = sum-cong [] add 8 _ _ (λ n l. ap (scale (x n)) (term n l) ∙ sym (mul-integer (x n) (eight-factor k n)))
   where
-    term : (n : ℕ) → n < 8 → mul (number (pos 1)) (factor (k % 8) (n % 8)) ≡ factor k n
+    term : (n : ℕ) → n < 8 → mul (integer (pos 1)) (factor (k % 8) (n % 8)) ≡ factor k n
     term n l = rw (mod-eq-of-lt h, mod-eq-of-lt l) (mul-one (eight-factor k n))
 
 -- two dimensions
@@ -62,20 +62,20 @@ element-double-sum x u v h k =
     ∙ sum-cong [] add 8 _ _ (λ i l. sum-cong [] add 8 _ _ (λ j m. ap₂ scale (ap x (ap (λ (a : ℕ). a + j) (times-comm i 8))) (two-factors u v i j h k l m)))
 
 -- columns, then rows: a step down each column j, and then a step across
-pub columns-then-rows : (x : ℕ → ℕ → ℤ) (u v : ℕ) → double-sum x u v ≡ step (λ j. step (λ i. number (x i j)) u) v
+pub columns-then-rows : (x : ℕ → ℕ → ℤ) (u v : ℕ) → double-sum x u v ≡ step (λ j. step (λ i. integer (x i j)) u) v
 unfolding double-sum step
 columns-then-rows x u v = sum-swap [] add elements 8 8 term ∙ sum-cong [] add 8 _ _ (λ j h. sym (column j))
   where
     term : ℕ → ℕ → List ℤ
     term i j = scale (x i j) (mul (factor u i) (factor v j))
 
-    entry : (i j : ℕ) → mul (mul (number (x i j)) (factor u i)) (factor v j) ≡ term i j
-    entry i j = ap (λ a. mul a (factor v j)) (mul-number (x i j) (eight-factor u i)) ∙ mul-left (factor v j) .multiples (x i j) (factor u i)
+    item : (i j : ℕ) → mul (mul (integer (x i j)) (factor u i)) (factor v j) ≡ term i j
+    item i j = ap (λ a. mul a (factor v j)) (mul-integer (x i j) (eight-factor u i)) ∙ mul-left (factor v j) .multiples (x i j) (factor u i)
 
-    column : (j : ℕ) → mul (sum [] add 8 (λ i. mul (number (x i j)) (factor u i))) (factor v j) ≡ sum [] add 8 (λ i. term i j)
+    column : (j : ℕ) → mul (sum [] add 8 (λ i. mul (integer (x i j)) (factor u i))) (factor v j) ≡ sum [] add 8 (λ i. term i j)
     column j =
-        linear-sum (λ a. mul a (factor v j)) (mul-left (factor v j)) 8 (λ i. mul (number (x i j)) (factor u i))
-        ∙ sum-cong [] add 8 _ _ (λ i h. entry i j)
+        linear-sum (λ a. mul a (factor v j)) (mul-left (factor v j)) 8 (λ i. mul (integer (x i j)) (factor u i))
+        ∙ sum-cong [] add 8 _ _ (λ i h. item i j)
 
 -- T.81
 
@@ -84,8 +84,8 @@ twice-factor : (k n : ℕ) → mul (twice-C k) (cosine (pos ((2 * n + 1) * k))) 
 unfolding twice-C factor
 twice-factor zero n =
     ap (λ (a : ℕ). mul (cosine (pos 4)) (cosine (pos a))) (mul-zero (2 * n + 1)) ∙ ap (mul (cosine (pos 4))) cosine-0
-    ∙ mul-comm (cosine (pos 4)) (number (pos 2)) ∙ mul-number (pos 2) (eight-cosine (pos 4))
-twice-factor (suc k) n = mul-number (pos 2) (eight-cosine (pos ((2 * n + 1) * suc k)))
+    ∙ mul-comm (cosine (pos 4)) (integer (pos 2)) ∙ mul-integer (pos 2) (eight-cosine (pos 4))
+twice-factor (suc k) n = mul-integer (pos 2) (eight-cosine (pos ((2 * n + 1) * suc k)))
 
 linear-double-sum : (L : List ℤ → List ℤ) → LinearMap L → (f : ℕ → ℕ → List ℤ)
     → L (sum [] add 8 (λ i. sum [] add 8 (f i))) ≡ sum [] add 8 (λ i. sum [] add 8 (λ j. L (f i j)))
@@ -96,7 +96,7 @@ pub sixteen-times-dct : (x : ℕ → ℕ → ℤ) (u v : ℕ) → scale (pos 4) 
 unfolding double-sum sixty-four-S
 sixteen-times-dct x u v =
     linear-double-sum (scale (pos 4)) (linear-scale (pos 4)) (λ i j. scale (x i j) (factor-pair i j))
-    ∙ sum-cong [] add 8 _ _ (λ i h. sum-cong [] add 8 _ _ (λ j k. entry i j))
+    ∙ sum-cong [] add 8 _ _ (λ i h. sum-cong [] add 8 _ _ (λ j k. item i j))
     ∙ sym (linear-double-sum (mul C) (mul-right C) (λ i j. scale (x i j) (cosine-pair i j)))
   where
     C : List ℤ
@@ -117,7 +117,7 @@ sixteen-times-dct x u v =
         ∙ mul-left (scale (pos 2) (factor v j)) .multiples (pos 2) (factor u i) ∙ ap (scale (pos 2)) (mul-right (factor u i) .multiples (pos 2) (factor v j))
         ∙ scale-scale (pos 2) (pos 2) (factor-pair i j)
 
-    entry : (i j : ℕ) → scale (pos 4) (scale (x i j) (factor-pair i j)) ≡ mul C (scale (x i j) (cosine-pair i j))
-    entry i j =
+    item : (i j : ℕ) → scale (pos 4) (scale (x i j) (factor-pair i j)) ≡ mul C (scale (x i j) (cosine-pair i j))
+    item i j =
         linear-scale (pos 4) .multiples (x i j) (factor-pair i j) ∙ ap (scale (x i j)) (sym (fourfold i j))
         ∙ sym (mul-right C .multiples (x i j) (cosine-pair i j))

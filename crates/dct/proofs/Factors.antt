@@ -11,7 +11,7 @@ use Rattle.integers.proofs.Sums.{CommutativeMonoid, sum-blocks, sum-cong}
 use Rattle.ring.specs.Element.{add, scale, cosine, mul}
 use Rattle.ring.proofs.Components.{Eight, eight-only, eight-cosine, eight-scale, eight-sum, eight-mul}
 use Rattle.ring.proofs.Cosines.{cosine-product}
-use Rattle.dct.specs.Transform.{angle, factor, factors, element, double-sum, step}
+use Rattle.dct.specs.Transform.{angle, factor, factors, element, step}
 
 pub eight-factor : (k n : ℕ) → Eight (factor k n)
 unfolding factor
@@ -29,11 +29,6 @@ some-sample d = one-le-pow d 8 (zero-lt-suc 7)
 pub eight-element : (d : ℕ) (x : ℕ → ℤ) (p : ℕ) → Eight (element d x p)
 unfolding element
 eight-element d x p = eight-sum (8 ^ d) (λ q. scale (x q) (factors d p q)) (some-sample d) (λ q h. eight-scale (x q) (eight-factors d p q))
-
-pub eight-double-sum : (x : ℕ → ℕ → ℤ) (u v : ℕ) → Eight (double-sum x u v)
-unfolding double-sum
-eight-double-sum x u v =
-    eight-sum 8 _ (zero-lt-suc 7) (λ i h. eight-sum 8 _ (zero-lt-suc 7) (λ j k. eight-scale (x i j) (eight-mul (eight-factor _ _) (eight-factor _ _))))
 
 -- the step of a row
 

@@ -10,18 +10,18 @@ use lib.IntN.{ℤ, pos, _+ℤ_, _*ℤ_, zero-*ℤ}
 use Rattle.integers.specs.Sum.{sum}
 use Rattle.integers.proofs.Integer.{*ℤ-cancel}
 use Rattle.integers.proofs.Sums.{integers, sum-cong, sum-map, sum-swap, sum-only}
-use Rattle.ring.specs.Element.{component, add, scale, number, mul}
+use Rattle.ring.specs.Element.{component, add, scale, integer, mul}
 use Rattle.ring.proofs.Linear.{elements, linear-sum}
 use Rattle.ring.proofs.Product.{mul-left, mul-right, mul-comm, mul-assoc}
 use Rattle.ring.proofs.Components.{Eight, eight-only, eight-scale, eight-sum, component-add, component-scale, same-components}
-use Rattle.ring.proofs.Ring.{mul-number, scale-number}
+use Rattle.ring.proofs.Ring.{mul-integer, scale-integer}
 use Rattle.dct.specs.Inverse.{summed-back, step-back}
 use Rattle.dct.specs.Transform.{factor, factors, element, step}
 use Rattle.dct.proofs.Factors.{eight-factors}
 use Rattle.dct.proofs.Orthogonal.{gram, delta, delta-same, delta-other, row-gram, row-gram-is, orthogonal}
 
 -- a matrix t that is orthogonal as the factors are: it takes elements x to others, and its transpose takes these to 16^d × x
-module _ (d n : ℕ) (t : ℕ → ℕ → List ℤ) (gram-is : (q r : ℕ) → q < n → r < n → sum [] add n (λ p. mul (t p q) (t p r)) ≡ number (delta d q r))
+module _ (d n : ℕ) (t : ℕ → ℕ → List ℤ) (gram-is : (q r : ℕ) → q < n → r < n → sum [] add n (λ p. mul (t p q) (t p r)) ≡ integer (delta d q r))
     (x : ℕ → List ℤ) (eights : (q : ℕ) → q < n → Eight (x q)) (r : ℕ) (h : r < n) where
   term : ℕ → ℕ → List ℤ
   term p q = mul (x q) (mul (t p q) (t p r))
@@ -39,7 +39,7 @@ module _ (d n : ℕ) (t : ℕ → ℕ → List ℤ) (gram-is : (q r : ℕ) → q
   unfolding term weighed
   gathered q k =
       sym (linear-sum (mul (x q)) (mul-right (x q)) n (λ p. mul (t p q) (t p r)))
-      ∙ ap (mul (x q)) (gram-is q r k h) ∙ mul-comm (x q) (number (delta d q r)) ∙ mul-number (delta d q r) (eights q k)
+      ∙ ap (mul (x q)) (gram-is q r k h) ∙ mul-comm (x q) (integer (delta d q r)) ∙ mul-integer (delta d q r) (eights q k)
 
   component-at : (k : ℕ) → component (sum [] add n weighed) k ≡ component (scale (pos (16 ^ d)) (x r)) k
   unfolding weighed
@@ -62,12 +62,12 @@ unfolding step-back step row-gram
 row-inverse x eights n h = forth-and-back 1 8 factor row-gram-is x eights n h
 
 -- a block of samples
-pub inverse : (d : ℕ) (x : ℕ → ℤ) (r : ℕ) → r < 8 ^ d → summed-back d (element d x) r ≡ number (pos (16 ^ d) *ℤ x r)
+pub inverse : (d : ℕ) (x : ℕ → ℤ) (r : ℕ) → r < 8 ^ d → summed-back d (element d x) r ≡ integer (pos (16 ^ d) *ℤ x r)
 unfolding summed-back element gram
 inverse d x r h =
     sum-cong [] add (8 ^ d) _ _
-    (λ p k. ap (λ a. mul a (factors d p r)) (sum-cong [] add (8 ^ d) _ _ (λ q l. sym (mul-number (x q) (eight-factors d p q)))))
-    ∙ forth-and-back d (8 ^ d) (factors d) (orthogonal d) (λ q. number (x q)) (λ q k. eight-only (x q) 0) r h ∙ scale-number (pos (16 ^ d)) (x r)
+    (λ p k. ap (λ a. mul a (factors d p r)) (sum-cong [] add (8 ^ d) _ _ (λ q l. sym (mul-integer (x q) (eight-factors d p q)))))
+    ∙ forth-and-back d (8 ^ d) (factors d) (orthogonal d) (λ q. integer (x q)) (λ q k. eight-only (x q) 0) r h ∙ scale-integer (pos (16 ^ d)) (x r)
 
 -- two blocks with the same elements are the same block
 pub unique : (d : ℕ) (x y : ℕ → ℤ) → ((p : ℕ) → p < 8 ^ d → element d x p ≡ element d y p) → (r : ℕ) → r < 8 ^ d → x r ≡ y r

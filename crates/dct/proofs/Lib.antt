@@ -8,4 +8,4 @@ pub mod Classes
 pub mod Conjugates
 pub mod Parts
 pub mod Halves
-pub mod NumberBack
+pub mod IntegerBack

@@ -14,11 +14,11 @@ use Rattle.integers.specs.Sum.{sum}
 use Rattle.integers.specs.Test.{eqList}
 use Rattle.integers.proofs.Sums.{sum-cong}
 use Rattle.integers.proofs.Tests.{every₂, every₂-at, eqList→≡}
-use Rattle.ring.specs.Element.{add, number, cosine, mul}
+use Rattle.ring.specs.Element.{add, integer, cosine, mul}
 use Rattle.ring.proofs.Linear.{elements, linear-sum}
 use Rattle.ring.proofs.Product.{mul-left, mul-right, mul-swap}
 use Rattle.ring.proofs.Components.{eight-only}
-use Rattle.ring.proofs.Ring.{mul-one, mul-number, scale-number}
+use Rattle.ring.proofs.Ring.{mul-one, mul-integer, scale-integer}
 use Rattle.dct.specs.Transform.{angle, factor, factors}
 use Rattle.dct.proofs.Factors.{angle-product, factor-product, factors-frequency, sum-digits}
 
@@ -60,13 +60,13 @@ unfoldable pub row-gram : ℕ → ℕ → List ℤ
 row-gram n m = sum [] add 8 (λ k. mul (factor k n) (factor k m))
 
 row-gram-at : ℕ → ℕ → Bool
-row-gram-at n m = eqList (sum [] add 8 (λ k. angle-product (angle k n) (angle k m))) (number (delta 1 n m))
+row-gram-at n m = eqList (sum [] add 8 (λ k. angle-product (angle k n) (angle k m))) (integer (delta 1 n m))
 
 row-gram-test : T (every₂ 8 row-gram-at)
 unfolding sum row-gram-at delta angle-product cosine
 row-gram-test = tt
 
-pub row-gram-is : (n m : ℕ) → n < 8 → m < 8 → row-gram n m ≡ number (delta 1 n m)
+pub row-gram-is : (n m : ℕ) → n < 8 → m < 8 → row-gram n m ≡ integer (delta 1 n m)
 unfolding row-gram row-gram-at
 row-gram-is n m h k = sum-cong [] add 8 _ _ (λ k l. factor-product k n k m) ∙ eqList→≡ _ _ (every₂-at 8 row-gram-at row-gram-test n m h k)
 
@@ -92,14 +92,14 @@ module _ (d q r : ℕ) where
       ∙ sum-cong [] add (8 ^ d) _ (λ p. mul (both p) g) (λ p h. last-digit p)
       ∙ sym (linear-sum (λ a. mul a g) (mul-left g) (8 ^ d) both)
 
-pub orthogonal : (d q r : ℕ) → q < 8 ^ d → r < 8 ^ d → gram d q r ≡ number (delta d q r)
+pub orthogonal : (d q r : ℕ) → q < 8 ^ d → r < 8 ^ d → gram d q r ≡ integer (delta d q r)
 unfolding sum gram factors
-orthogonal zero q r h k = mul-one (eight-only (pos 1) 0) ∙ sym (ap number (delta-same 0 q r (omega arith)))
+orthogonal zero q r h k = mul-one (eight-only (pos 1) 0) ∙ sym (ap integer (delta-same 0 q r (omega arith)))
 orthogonal (suc d) q r h k =
     let last = delta 1 (q % 8) (r % 8) in
     gram-suc d q r
     ∙ ap₂ mul (orthogonal d (q / 8) (r / 8) (first-digits h) (first-digits k)) (row-gram-is (q % 8) (r % 8) (omega arith) (omega arith))
-    ∙ mul-number (delta d (q / 8) (r / 8)) (eight-only last 0) ∙ scale-number (delta d (q / 8) (r / 8)) last ∙ ap number (delta-suc d q r)
+    ∙ mul-integer (delta d (q / 8) (r / 8)) (eight-only last 0) ∙ scale-integer (delta d (q / 8) (r / 8)) last ∙ ap integer (delta-suc d q r)
   where
     first-digits : {n : ℕ} → n < 8 ^ suc d → n / 8 < 8 ^ d
     first-digits {n} l = let l′ : n < 8 ^ d * 8 = rw (pow-suc 8 d) at l in omega arith

@@ -12,13 +12,13 @@ use Rattle.integers.specs.Sum.{sum}
 use Rattle.integers.specs.Test.{every, eqList}
 use Rattle.integers.proofs.Sums.{sum-cong, sum-map, sum-swap}
 use Rattle.integers.proofs.Tests.{every-at, eqList→≡}
-use Rattle.ring.specs.Element.{component, add, scale, number, cosine, mul}
+use Rattle.ring.specs.Element.{component, add, scale, integer, cosine, mul}
 use Rattle.ring.specs.Maps.{part}
 use Rattle.ring.proofs.Linear.{LinearForm, elements, linear-self, linear-sum}
 use Rattle.ring.proofs.Product.{mul-left, mul-right, mul-comm, mul-assoc}
 use Rattle.ring.proofs.Components.{Eight, eight-only, eight-cosine, eight-scale, eight-sum, component-add, component-scale, form-component, same-components}
 use Rattle.ring.proofs.Forms.{form-none, form-plus, form-times, form-same}
-use Rattle.ring.proofs.Ring.{mul-number}
+use Rattle.ring.proofs.Ring.{mul-integer}
 use Rattle.dct.specs.Rows.{restricted}
 use Rattle.dct.specs.Transform.{factor, step}
 use Rattle.dct.proofs.Factors.{eight-factor, eight-step}
@@ -26,7 +26,7 @@ use Rattle.dct.proofs.Factors.{eight-factor, eight-step}
 module _ (k : ℕ → ℕ) where
   -- c_k times the part of a at component k
   part-product : (a : List ℤ) (i : ℕ) → scale (component a (k i)) (cosine (pos (k i))) ≡ mul (cosine (pos (k i))) (part a (k i))
-  part-product a i = sym (mul-comm (cosine (pos (k i))) (part a (k i)) ∙ mul-number (component a (k i)) (eight-cosine (pos (k i))))
+  part-product a i = sym (mul-comm (cosine (pos (k i))) (part a (k i)) ∙ mul-integer (component a (k i)) (eight-cosine (pos (k i))))
 
   -- the step of a row of which only some components count
   module _ (m : ℕ) (x : ℕ → List ℤ) (counts : (n : ℕ) → n < 8 → restricted m k (x n) ≡ x n) (v : ℕ) where
@@ -68,16 +68,16 @@ module _ (k : ℕ → ℕ) where
   spans m u = every 8 (λ n. eqList (restricted m k (factor u n)) (factor u n))
 
   -- and so have the frequencies u of whole numbers
-  pub restricted-step : (m : ℕ) (x : ℕ → ℤ) (u : ℕ) → T (spans (suc m) u) → restricted (suc m) k (step (λ n. number (x n)) u) ≡ step (λ n. number (x n)) u
+  pub restricted-step : (m : ℕ) (x : ℕ → ℤ) (u : ℕ) → T (spans (suc m) u) → restricted (suc m) k (step (λ n. integer (x n)) u) ≡ step (λ n. integer (x n)) u
   unfolding step
   restricted-step m x u t =
-      same-components (eight-restricted m (step (λ n. number (x n)) u)) (eight-step (λ n. number (x n)) (λ n h. eight-only (x n) 0) u) (λ j h. at j)
+      same-components (eight-restricted m (step (λ n. integer (x n)) u)) (eight-step (λ n. integer (x n)) (λ n h. eight-only (x n) 0) u) (λ j h. at j)
     where
       terms : ℕ → List ℤ
       terms n = scale (x n) (factor u n)
 
-      scaled : sum [] add 8 (λ n. mul (number (x n)) (factor u n)) ≡ sum [] add 8 terms
-      scaled = sum-cong [] add 8 _ _ (λ n h. mul-number (x n) (eight-factor u n))
+      scaled : sum [] add 8 (λ n. mul (integer (x n)) (factor u n)) ≡ sum [] add 8 terms
+      scaled = sum-cong [] add 8 _ _ (λ n h. mul-integer (x n) (eight-factor u n))
 
       form : {φ : List ℤ → ℤ} → LinearForm φ → φ (sum [] add 8 terms) ≡ sum (pos 0) _+ℤ_ 8 (λ n. x n *ℤ φ (factor u n))
       form {φ} l = sum-map [] add (pos 0) _+ℤ_ φ (l .nil) (l .sums) 8 terms ∙ sum-cong (pos 0) _+ℤ_ 8 _ _ (λ n h. l .multiples (x n) (factor u n))
@@ -85,7 +85,7 @@ module _ (k : ℕ → ℕ) where
       spanned : (n : ℕ) → n < 8 → restricted (suc m) k (factor u n) ≡ factor u n
       spanned n h = eqList→≡ _ _ (every-at 8 (λ n. eqList (restricted (suc m) k (factor u n)) (factor u n)) t n h)
 
-      at : (j : ℕ) → component (restricted (suc m) k (step (λ n. number (x n)) u)) j ≡ component (step (λ n. number (x n)) u) j
+      at : (j : ℕ) → component (restricted (suc m) k (step (λ n. integer (x n)) u)) j ≡ component (step (λ n. integer (x n)) u) j
       at j =
           ap (λ a. component (restricted (suc m) k a) j) scaled ∙ form (form-restricted (suc m) j)
           ∙ sum-cong (pos 0) _+ℤ_ 8 _ _ (λ n h. ap (λ (a : List ℤ). x n *ℤ component a j) (spanned n h))

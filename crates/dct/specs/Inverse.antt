@@ -18,8 +18,8 @@ unfoldable pub step-back : (ℕ → List ℤ) → ℕ → List ℤ
 step-back r n = sum [] add 8 (λ k. mul (r k) (factor k n))
 
 -- half of component 0 of it, which is a sum of components of the row
-unfoldable pub number-back : (ℕ → List ℤ) → ℕ → ℤ
-number-back r n = sum (pos 0) _+ℤ_ 8 (λ k. dot (r k) (factor k n))
+unfoldable pub integer-back : (ℕ → List ℤ) → ℕ → ℤ
+integer-back r n = sum (pos 0) _+ℤ_ 8 (λ k. dot (r k) (factor k n))
 
 -- its terms of the even frequencies, where p is 0, or of the odd ones, where p is 1; r 0 to r 3 are the row's elements there
 unfoldable pub half-back : ℕ → (ℕ → List ℤ) → ℕ → ℤ

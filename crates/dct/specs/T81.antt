@@ -5,12 +5,12 @@ use mathlib.Core.List.{List, []}
 use Prim.Native.Nat.{ℕ, zero, suc, _+_, _*_}
 use lib.IntN.{ℤ, pos}
 use Rattle.integers.specs.Sum.{sum}
-use Rattle.ring.specs.Element.{add, scale, number, cosine, mul}
+use Rattle.ring.specs.Element.{add, scale, integer, cosine, mul}
 
 -- 2·C(k): 2/√2 = √2 = 2·cos(4·π/16) where k = 0, and 2 otherwise
 unfoldable pub twice-C : ℕ → List ℤ
 twice-C zero = cosine (pos 4)
-twice-C (suc k) = number (pos 2)
+twice-C (suc k) = integer (pos 2)
 
 -- 64·S(u,v) = 2·C(u) · 2·C(v) · sum over i, j of s(i,j) · 2·cos(..) · 2·cos(..)
 unfoldable pub sixty-four-S : (ℕ → ℕ → ℤ) → ℕ → ℕ → List ℤ

@@ -8,7 +8,7 @@ use Prim.Native.Nat.{ℕ, zero, suc, _+_, _*_, _/_, _%_, _^_, _≤_, _<_}
 use lib.Dec.{eqb}
 use lib.IntN.{ℤ, pos, natAbs}
 use Rattle.integers.specs.Sum.{sum}
-use Rattle.ring.specs.Element.{add, scale, number, cosine, mul}
+use Rattle.ring.specs.Element.{add, scale, integer, cosine, mul}
 
 -- the index of the cosine that 01's factor t(k,n) is: 4 where k = 0, and (2n+1)·k otherwise
 abbrev pub angle : ℕ → ℕ → ℕ
@@ -21,7 +21,7 @@ factor k n = cosine (pos (angle k n))
 
 -- the product of the factors along d dimensions, of the frequencies in p and the places in q
 unfoldable pub factors : ℕ → ℕ → ℕ → List ℤ
-factors zero p q = number (pos 1)
+factors zero p q = integer (pos 1)
 factors (suc d) p q = mul (factors d (p / 8) (q / 8)) (factor (p % 8) (q % 8))
 
 -- the exact element of the block x at index p: the sum over all samples of sample × factors

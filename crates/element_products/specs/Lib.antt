@@ -1,1 +1,1 @@
-pub mod Entry
+pub mod Products

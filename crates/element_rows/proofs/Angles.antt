@@ -13,13 +13,13 @@ use Rattle.integers.specs.Test.{every, eqZ, eqList}
 use Rattle.integers.proofs.Integer.{*ℤ-pos1, *ℤ-minus-one}
 use Rattle.integers.proofs.Magnitudes.{natAbs-neg}
 use Rattle.integers.proofs.Tests.{every-at, eqZ→≡, eqList→≡}
-use Rattle.ring.specs.Element.{component, scale, only, number, full-turn, cosine, mul}
+use Rattle.ring.specs.Element.{component, scale, only, integer, full-turn, cosine, mul}
 use Rattle.ring.specs.Maps.{dot}
 use Rattle.ring.proofs.Linear.{linear-self}
 use Rattle.ring.proofs.Components.{Eight, eight-cosine, form-component, linear-same}
 use Rattle.ring.proofs.Forms.{form-times}
 use Rattle.ring.proofs.Dots.{form-dot}
-use Rattle.ring.proofs.Ring.{mul-number, scale-only}
+use Rattle.ring.proofs.Ring.{mul-integer, scale-only}
 use Rattle.element_rows.specs.Angle.{index, signed}
 
 -- the sign as a factor, and that it keeps a magnitude
@@ -70,11 +70,11 @@ module _ (m : ℕ) (h : 0 < m % 8) where
   same-index = let e : m % 32 % 16 ≡ m % 16 = omega arith in rw e
 
   -- s × c_m
-  pub number-times : (s : ℤ) → only (signed s m) (index m) ≡ mul (number s) (cosine (pos m))
+  pub integer-times : (s : ℤ) → only (signed s m) (index m) ≡ mul (integer s) (cosine (pos m))
   unfolding cosine-at cosine
-  number-times s =
+  integer-times s =
       ap (λ z. only z (index m)) (signed-times s m) ∙ sym (scale-only s (signed (pos 1) m) (index m))
-      ∙ ap (scale s) (sym (rw (same-sign (pos 1), same-index) at turn)) ∙ sym (mul-number s (eight-cosine (pos m)))
+      ∙ ap (scale s) (sym (rw (same-sign (pos 1), same-index) at turn)) ∙ sym (mul-integer s (eight-cosine (pos m)))
     where
       turn : full-turn (m % 32) ≡ only (signed (pos 1) (m % 32)) (index (m % 32))
       turn = eqList→≡ _ _ (passes cosine-at cosine-test)

@@ -2,21 +2,21 @@
 -- Assumes nothing.
 use mathlib.Core.Path.{_≡_, refl}
 use mathlib.Core.List.{List, [], _∷_}
-use Prim.Native.Nat.{ℕ, zero, suc, _+_, _*_, _%_, _≤_, _<_}
-use native.Mathlib.Omega.{arith}
+use Prim.Native.Nat.{ℕ, _+_, _*_, _%_, _≤_, _<_}
 use lib.IntN.{ℤ, pos, negsuc, negℤ, natAbs}
 use Rattle.integers.specs.Sum.{sum}
 use Rattle.integers.proofs.Magnitudes.{natAbs-neg}
-use Rattle.ring.specs.Element.{component, add, subtract, only, number, cosine, mul}
+use Rattle.integers.proofs.Tables.{listed-4, listed-8}
+use Rattle.ring.specs.Element.{component, add, subtract, only, integer, cosine, mul}
 use Rattle.ring.specs.Maps.{part, conjugate, dot}
 use Rattle.ring.proofs.Components.{Eight, eight-add, eight-scale, eight-mul, eight-only, eight-cosine, eight-sum}
 use Rattle.ring.proofs.Conjugates.{conjugate-components}
 use Rattle.elements.specs.declared.Element.{Element}
 use Rattle.elements.specs.Bound.{Within}
-use Rattle.elements.specs.Buffer.{Row, Rows, entry, row}
+use Rattle.elements.specs.Buffer.{Row, Rows}
 use Rattle.element_rows.specs.Room.{Small, Room}
 use Rattle.element_rows.specs.Angle.{index, signed}
-use Rattle.element_rows.proofs.Angles.{signed-size, number-times, dot-is}
+use Rattle.element_rows.proofs.Angles.{signed-size, integer-times, dot-is}
 use Rattle.elements.proofs.Bounds.{within-le, within-nil, within-cons, within-only, within-cosine}
 use Rattle.elements.proofs.Componentwise.{within-add, within-subtract, within-sum}
 
@@ -57,16 +57,16 @@ small-sum n B f some s = small (eight-sum n f some (λ k h. eights (s k h))) (wi
 small-only : {B : ℕ} (s : ℤ) (k : ℕ) → natAbs s ≤ B → Small B (only s k)
 small-only s k l = small (eight-only s k) (within-le l (within-only s k))
 
-pub small-number : {B : ℕ} (s : ℤ) → natAbs s ≤ B → Small B (number s)
-small-number s = small-only s 0
+pub small-integer : {B : ℕ} (s : ℤ) → natAbs s ≤ B → Small B (integer s)
+small-integer s = small-only s 0
 
 pub small-part : {B : ℕ} {a : List ℤ} (k : ℕ) → Small B a → Small B (part a k)
-small-part {a = a} k p = small-number (component a k) (p .within .within k)
+small-part {a = a} k p = small-integer (component a k) (p .within .within k)
 
 -- a product of one with a cosine needs no more
-pub small-number-times : {B : ℕ} {a : List ℤ} (m : ℕ) → 0 < m % 8 → Small B a → Small B (mul (part a 0) (cosine (pos m)))
-small-number-times {a = a} m h p =
-    rw (← number-times m h (component a 0)) (small-only (signed (component a 0) m) (index m) (rw (signed-size (component a 0) m) (p .within .within 0)))
+pub small-integer-times : {B : ℕ} {a : List ℤ} (m : ℕ) → 0 < m % 8 → Small B a → Small B (mul (part a 0) (cosine (pos m)))
+small-integer-times {a = a} m h p =
+    rw (← integer-times m h (component a 0)) (small-only (signed (component a 0) m) (index m) (rw (signed-size (component a 0) m) (p .within .within 0)))
 
 pub small-dot : {B : ℕ} {a : List ℤ} (m : ℕ) → 0 < m % 8 → Small B a → natAbs (dot a (cosine (pos m))) ≤ B
 small-dot {a = a} m h p = rw (← dot-is m h (eights p), signed-size (component a (index m)) m) (p .within .within (index m))
@@ -75,41 +75,16 @@ small-dot {a = a} m h p = rw (← dot-is m h (eights p), signed-size (component 
 
 pub row-4 : {f : ℕ → List ℤ} {a b c d : Element} → a .components ≡ f 0 → b .components ≡ f 1 → c .components ≡ f 2 → d .components ≡ f 3
     → Row 4 f (a ∷ b ∷ c ∷ d ∷ [])
-row-4 {f} {a} {b} {c} {d} p q r s = record { at = go }
-  where
-    go : (i : ℕ) → i < 4 → entry (a ∷ b ∷ c ∷ d ∷ []) i ≡ f i
-    go zero h = p
-    go (suc zero) h = q
-    go (suc (suc zero)) h = r
-    go (suc (suc (suc zero))) h = s
-    go (suc (suc (suc (suc i)))) h = absurd (omega arith)
+row-4 {f} p q r s = record { at = listed-4 {A = Element} (record { components = [] }) (λ k x. x .components ≡ f k) p q r s }
 
 pub row-8 : {f : ℕ → List ℤ} {a b c d e g h i : Element} → a .components ≡ f 0 → b .components ≡ f 1 → c .components ≡ f 2 → d .components ≡ f 3
     → e .components ≡ f 4 → g .components ≡ f 5 → h .components ≡ f 6 → i .components ≡ f 7 → Row 8 f (a ∷ b ∷ c ∷ d ∷ e ∷ g ∷ h ∷ i ∷ [])
-row-8 {f} {a} {b} {c} {d} {e} {g} {h} {i} p q r s t u v w = record { at = go }
-  where
-    go : (k : ℕ) → k < 8 → entry (a ∷ b ∷ c ∷ d ∷ e ∷ g ∷ h ∷ i ∷ []) k ≡ f k
-    go zero l = p
-    go (suc zero) l = q
-    go (suc (suc zero)) l = r
-    go (suc (suc (suc zero))) l = s
-    go (suc (suc (suc (suc k)))) l = row-4 {f = λ k. f (suc (suc (suc (suc k))))} {a = e} {b = g} {c = h} {d = i} t u v w .at k (omega arith)
+row-8 {f} p q r s t u v w = record { at = listed-8 {A = Element} (record { components = [] }) (λ k x. x .components ≡ f k) p q r s t u v w }
 
 -- eight rows
 pub rows-8 : {f : ℕ → ℕ → List ℤ} {a b c d e g h i : List Element} → Row 8 (f 0) a → Row 8 (f 1) b → Row 8 (f 2) c → Row 8 (f 3) d → Row 8 (f 4) e
     → Row 8 (f 5) g → Row 8 (f 6) h → Row 8 (f 7) i → Rows f (a ∷ b ∷ c ∷ d ∷ e ∷ g ∷ h ∷ i ∷ [])
-rows-8 {f} {a} {b} {c} {d} {e} {g} {h} {i} p q r s t u v w = record { at = go }
-  where
-    go : (k : ℕ) → k < 8 → Row 8 (f k) (row (a ∷ b ∷ c ∷ d ∷ e ∷ g ∷ h ∷ i ∷ []) k)
-    go zero l = p
-    go (suc zero) l = q
-    go (suc (suc zero)) l = r
-    go (suc (suc (suc zero))) l = s
-    go (suc (suc (suc (suc zero)))) l = t
-    go (suc (suc (suc (suc (suc zero))))) l = u
-    go (suc (suc (suc (suc (suc (suc zero)))))) l = v
-    go (suc (suc (suc (suc (suc (suc (suc zero))))))) l = w
-    go (suc (suc (suc (suc (suc (suc (suc (suc k)))))))) l = absurd (omega arith)
+rows-8 {f} p q r s t u v w = record { at = listed-8 [] (λ k x. Row 8 (f k) x) p q r s t u v w }
 
 -- a row of elements that are known is as small as these
 pub row-room : {m B : ℕ} {f : ℕ → List ℤ} {l : List Element} → Row m f l → ((i : ℕ) → i < m → Small B (f i)) → Room m B l

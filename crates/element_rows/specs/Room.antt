@@ -6,7 +6,7 @@ use lib.IntN.{ℤ}
 use lib.ListN.{length}
 use Rattle.elements.specs.declared.Element.{Element}
 use Rattle.elements.specs.Bound.{Within}
-use Rattle.elements.specs.Buffer.{entry}
+use Rattle.elements.specs.Buffer.{item}
 
 -- an element of eight components, none of which is above B in magnitude
 pub record Small (B : ℕ) (a : List ℤ) : Type 0 where
@@ -15,4 +15,4 @@ pub record Small (B : ℕ) (a : List ℤ) : Type 0 where
 
 -- the first m elements of a row are so
 pub record Room (m B : ℕ) (row : List Element) : Type 0 where
-  pub small : (i : ℕ) → i < m → Small B (entry row i)
+  pub small : (i : ℕ) → i < m → Small B (item row i)

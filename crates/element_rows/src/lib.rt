@@ -3,14 +3,15 @@
 // A product of a whole number with c_m, and a component along c_m, need no addition: c_m is plus or minus one of c_1 to c_7, or a whole number,
 // which no angle of a step is. `Room` says how far the elements of a row may go.
 ghost use mathlib.Core.Path.{_≡_};
-ghost use Prim.Native.Nat.{_%_, _<_, _≤_};
-ghost use lib.IntN.{pos, natAbs, _*ℤ_};
+ghost use mathlib.Core.List.{List};
+ghost use Prim.Native.Nat.{ℕ, _%_, _*_, _+_, _<_, _≤_};
+ghost use lib.IntN.{ℤ, pos, natAbs, _*ℤ_};
 ghost use mir.Syntax.{w32};
 ghost use mir.Val.{SFits};
 ghost use Rattle.ring.specs.Element as ring;
 ghost use Rattle.ring.specs.Maps as maps;
 ghost use Rattle.elements.specs.Bound.{Within, headroom};
-ghost use Rattle.elements.specs.Buffer.{Row, entry, row};
+ghost use Rattle.elements.specs.Buffer.{Row, item, row};
 ghost use Rattle.element_rows.specs.Angle as angles;
 ghost use Rattle.element_rows.specs.Room.{Room};
 use elements::Element;
@@ -49,7 +50,7 @@ fn signed(s: i32, m: usize) -> i32
 }
 
 // u_0 × c_m, for m no multiple of 8: a product that needs no addition.
-pub fn times_number(a: Element, m: usize) -> Element
+pub fn times_integer(a: Element, m: usize) -> Element
     requires { ⌜ Within headroom (a .components) ⌝ }
     requires { ⌜ 0 < m % 8 ⌝ }
     ensures { λ r. ⌜ r .components ≡ ring.mul (maps.part (a .components) 0) (ring.cosine (pos m)) ⌝ }
@@ -62,7 +63,7 @@ pub fn times_number(a: Element, m: usize) -> Element
 pub fn along(a: Element, m: usize) -> Element
     requires { ⌜ Within headroom (a .components) ⌝ }
     requires { ⌜ 0 < m % 8 ⌝ }
-    ensures { λ r. ⌜ r .components ≡ ring.number (maps.dot (a .components) (ring.cosine (pos m))) ⌝ }
+    ensures { λ r. ⌜ r .components ≡ ring.integer (maps.dot (a .components) (ring.cosine (pos m))) ⌝ }
 {
     let u = component(a, index(m));
     only(signed(u, m), 0)
@@ -72,7 +73,7 @@ pub fn along(a: Element, m: usize) -> Element
 pub fn multiple(a: Element, s: i32) -> Element
     requires { ⌜ Within headroom (a .components) ⌝ }
     requires { ⌜ SFits w32 (s *ℤ ring.component (a .components) 0) ⌝ }
-    ensures { λ r. ⌜ r .components ≡ ring.number (s *ℤ ring.component (a .components) 0) ⌝ }
+    ensures { λ r. ⌜ r .components ≡ ring.integer (s *ℤ ring.component (a .components) 0) ⌝ }
 {
     let u = component(a, 0);
     only(s * u, 0)
@@ -83,7 +84,7 @@ pub fn multiple(a: Element, s: i32) -> Element
 pub fn times_half(x: [Element; 4], k: usize) -> [Element; 4]
     requires { ⌜ Room 4 headroom x ⌝ }
     requires { ⌜ k < 8 ⌝ }
-    ensures { λ r. ⌜ Row 4 (λ n. ring.mul (ring.cosine (pos k)) (entry x n)) r ⌝ }
+    ensures { λ r. ⌜ Row 4 (λ n. ring.mul (ring.cosine (pos k)) (item x n)) r ⌝ }
 {
     [
         times(x[0], k),
@@ -97,7 +98,7 @@ pub fn times_half(x: [Element; 4], k: usize) -> [Element; 4]
 pub fn add_halves(x: [Element; 4], y: [Element; 4]) -> [Element; 4]
     requires { ⌜ Room 4 headroom x ⌝ }
     requires { ⌜ Room 4 headroom y ⌝ }
-    ensures { λ r. ⌜ Row 4 (λ n. ring.add (entry x n) (entry y n)) r ⌝ }
+    ensures { λ r. ⌜ Row 4 (λ n. ring.add (item x n) (item y n)) r ⌝ }
 {
     [
         add(x[0], y[0]),
@@ -110,7 +111,7 @@ pub fn add_halves(x: [Element; 4], y: [Element; 4]) -> [Element; 4]
 // What stands at place u of each of eight rows.
 pub fn across(x: [[Element; 8]; 8], u: usize) -> [Element; 8]
     requires { ⌜ u < 8 ⌝ }
-    ensures { λ r. ⌜ Row 8 (λ j. entry (row x j) u) r ⌝ }
+    ensures { λ r. ⌜ Row 8 (λ j. item (row x j) u) r ⌝ }
 {
     [
         x[0][u],
@@ -122,4 +123,11 @@ pub fn across(x: [[Element; 8]; 8], u: usize) -> [Element; 8]
         x[6][u],
         x[7][u],
     ]
+}
+
+// A row from its even and its odd frequencies.
+pub fn join(e: [Element; 4], o: [Element; 4]) -> [Element; 8]
+    ensures { λ r. ⌜ ((f : ℕ → List ℤ) → Row 4 (λ i. f (2 * i)) e → Row 4 (λ i. f (2 * i + 1)) o → Row 8 f r) ⌝ }
+{
+    [e[0], o[0], e[1], o[1], e[2], o[2], e[3], o[3]]
 }

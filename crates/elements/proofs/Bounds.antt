@@ -12,11 +12,11 @@ use lib.Dec.{T, eqb, ltb, leb, leb→le, lit<}
 use lib.IntN.{ℤ, pos, _-ℤ_, negℤ, natAbs}
 use lib.ListN.{List·getD-eq-default}
 use mir.Syntax.{w32}
-use mir.Val.{SFits, ofZ, toZ}
+use mir.Val.{SFits}
 use Rattle.integers.specs.Sum.{sum}
 use Rattle.integers.specs.Table.{table}
 use Rattle.integers.specs.Test.{every}
-use Rattle.integers.proofs.Signed.{kept, op-fits, op-kept}
+use Rattle.integers.proofs.Signed.{in32, kept, op-fits, op-kept}
 use Rattle.integers.proofs.Magnitudes.{natAbs-neg, natAbs-sub}
 use Rattle.integers.proofs.Tables.{length-table, getD-table}
 use Rattle.integers.proofs.Tests.{every-at}
@@ -82,24 +82,24 @@ within-cosine m {B} {a} e w = rw (by-components (eight-mul (eight-cosine m) e)) 
 
 -- the code's own numbers, read from the bits of an i32
 
-pub held : {r z : ℤ} → r ≡ z → natAbs z ≤ headroom → toZ w32 (ofZ w32 r) ≡ z
+pub held : {r z : ℤ} → r ≡ z → natAbs z ≤ headroom → in32 r ≡ z
 held {z = z} e l = rw e (kept w32 z (omega arith))
 
 -- the negative of one
 module _ (z : ℤ) (l : natAbs z ≤ headroom) where
-  pub negative-fits : SFits w32 (pos 0 -ℤ toZ w32 (ofZ w32 z))
+  pub negative-fits : SFits w32 (pos 0 -ℤ in32 z)
   negative-fits = op-fits _-ℤ_ natAbs-sub w32 {B = headroom} (lit< tt) (pos 0) z zero-le l
 
-  pub negative-kept : {r : ℤ} → r ≡ pos 0 -ℤ toZ w32 (ofZ w32 z) → toZ w32 (ofZ w32 r) ≡ pos 0 -ℤ z
+  pub negative-kept : {r : ℤ} → r ≡ pos 0 -ℤ in32 z → in32 r ≡ pos 0 -ℤ z
   negative-kept = op-kept _-ℤ_ natAbs-sub w32 {B = headroom} (lit< tt) (pos 0) z zero-le l
 
 -- the sum or the difference of two components
 
 module _ (op : ℤ → ℤ → ℤ) (small : (x y : ℤ) → natAbs (op x y) ≤ natAbs x + natAbs y)
     {a b : List ℤ} (p : Within headroom a) (q : Within headroom b) (i j : ℕ) where
-  pub components-fit : SFits w32 (op (toZ w32 (ofZ w32 (component a i))) (toZ w32 (ofZ w32 (component b j))))
+  pub components-fit : SFits w32 (op (in32 (component a i)) (in32 (component b j)))
   components-fit = op-fits op small w32 {B = headroom} (lit< tt) (component a i) (component b j) (p .within i) (q .within j)
 
-  pub components-kept : {r : ℤ} → r ≡ op (toZ w32 (ofZ w32 (component a i))) (toZ w32 (ofZ w32 (component b j)))
-      → toZ w32 (ofZ w32 r) ≡ op (component a i) (component b j)
+  pub components-kept : {r : ℤ} → r ≡ op (in32 (component a i)) (in32 (component b j))
+      → in32 r ≡ op (component a i) (component b j)
   components-kept e = op-kept op small w32 {B = headroom} (lit< tt) (component a i) (component b j) (p .within i) (q .within j) e

@@ -36,8 +36,8 @@ continued-high u j h = rw (le-ltb j 7 (omega arith), le-ltb j 16 h)
 -- the product: both sides are linear in the element, and a test compares them at 1 and at c_1 to c_7
 
 -- component i of the product, as a sum of two
-entry : ℕ → ℕ → List ℤ → ℤ
-entry k i a = continued a (7 + i - k) +ℤ continued a (7 + i + k)
+item : ℕ → ℕ → List ℤ → ℤ
+item k i a = continued a (7 + i - k) +ℤ continued a (7 + i + k)
 
 form-continued : (j : ℕ) → LinearForm (λ a. continued a j)
 unfolding continued
@@ -47,19 +47,19 @@ form-continued j = form-cond (ltb j 7) (at (7 - j)) (form-cond (ltb j 16) (at (j
     at k = form-component (λ a. a) linear-self k
 
 entry-at : ℕ → ℕ → ℕ → Bool
-entry-at k i m = eqZ (component (mul (cosine (pos k)) (only (pos 1) m)) i) (entry k i (only (pos 1) m))
+entry-at k i m = eqZ (component (mul (cosine (pos k)) (only (pos 1) m)) i) (item k i (only (pos 1) m))
 
 entry-test : T (every₃ 8 entry-at)
-unfolding entry-at entry continued cosine basis-product mul
+unfolding entry-at item continued cosine basis-product mul
 entry-test = tt
 
-component-product : (k i : ℕ) → k < 8 → i < 8 → {a : List ℤ} → Eight a → component (mul (cosine (pos k)) a) i ≡ entry k i a
-unfolding entry-at entry
+component-product : (k i : ℕ) → k < 8 → i < 8 → {a : List ℤ} → Eight a → component (mul (cosine (pos k)) a) i ≡ item k i a
+unfolding entry-at item
 component-product k i h l =
-    linear-same (λ a. component (mul (cosine (pos k)) a) i) (entry k i) (form-component (mul (cosine (pos k))) (mul-right (cosine (pos k))) i)
+    linear-same (λ a. component (mul (cosine (pos k)) a) i) (item k i) (form-component (mul (cosine (pos k))) (mul-right (cosine (pos k))) i)
     (form-plus (form-continued (7 + i - k)) (form-continued (7 + i + k))) (λ m b. eqZ→≡ _ _ (every₃-at 8 entry-at entry-test k i m h l b))
 
 -- the code's product is the ring's
 pub product-table : (k : ℕ) → k < 8 → {a : List ℤ} → Eight a → mul (cosine (pos k)) a ≡ table 8 (λ i. continued a (7 + i - k) +ℤ continued a (7 + i + k))
-unfolding entry
+unfolding item
 product-table k h {a} e = is-table (pos 0) (mul (cosine (pos k)) a) 8 _ (eight-mul (eight-cosine (pos k)) e .eight) (λ i l. component-product k i h l e)

@@ -9,9 +9,9 @@ pub record Within (B : ℕ) (a : List ℤ) : Type 0 where
   pub within : (k : ℕ) → natAbs (component a k) ≤ B
 
 -- the largest magnitude of n bits, the sign not counted
-abbrev pub bits : ℕ → ℕ
-bits n = 2 ^ n - 1
+abbrev pub bit-limit : ℕ → ℕ
+bit-limit n = 2 ^ n - 1
 
 -- the largest B for which the sum and the difference of any two numbers of magnitude at most B fit an i32
 abbrev pub headroom : ℕ
-headroom = bits 30
+headroom = bit-limit 30

@@ -19,12 +19,12 @@ unfoldable pub put : List ℤ → ℕ → List ℤ → List ℤ
 put l p u = table (length l) (λ i. cond (eqb (i / 8) p) (component u (i % 8)) (getD l i (pos 0)))
 
 -- the components of element n of an array
-abbrev pub entry : List Element → ℕ → List ℤ
-entry l n = getD l n (record { components = [] }) .components
+abbrev pub item : List Element → ℕ → List ℤ
+item l n = getD l n (record { components = [] }) .components
 
 -- the first n elements of an array are f 0, f 1, ..., f (n - 1)
 pub record Row (n : ℕ) (f : ℕ → List ℤ) (l : List Element) : Type 0 where
-  pub at : (i : ℕ) → i < n → entry l i ≡ f i
+  pub at : (i : ℕ) → i < n → item l i ≡ f i
 
 -- row i of eight rows
 abbrev pub row : List (List Element) → ℕ → List Element

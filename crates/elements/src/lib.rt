@@ -11,17 +11,11 @@ ghost use lib.IntN.{pos};
 ghost use lib.ListN.{length};
 ghost use Rattle.ring.specs.Element as ring;
 ghost use Rattle.ring.specs.Maps as maps;
-ghost use Rattle.elements.specs.Bound.{Within, bits, headroom};
+ghost use Rattle.elements.specs.Bound.{Within, bit-limit, headroom};
 ghost use Rattle.elements.specs.Buffer as buffers;
 ghost use Rattle.elements.specs.Continued as spec;
 use integers::minus;
 use integers::plus;
-
-// The places of a block of 8 by 8: its samples, its elements and its coefficients.
-pub const PLACES: usize = 64;
-
-// The components of all its elements.
-pub const COMPONENTS: usize = 512;
 
 // The eight components, u_0 first.
 pub struct Element {
@@ -66,9 +60,9 @@ pub fn add(a: Element, b: Element) -> Element
 
 // a + b + c + d, from left to right.
 pub fn add_four(a: Element, b: Element, c: Element, d: Element) -> Element
-    requires { ⌜ Within (bits 28) (a .components) ⌝ }
-    requires { ⌜ Within (bits 28) (b .components) ⌝ }
-    requires { ⌜ Within (bits 29) (c .components) ⌝ }
+    requires { ⌜ Within (bit-limit 28) (a .components) ⌝ }
+    requires { ⌜ Within (bit-limit 28) (b .components) ⌝ }
+    requires { ⌜ Within (bit-limit 29) (c .components) ⌝ }
     requires { ⌜ Within headroom (d .components) ⌝ }
     ensures { λ r. ⌜ r .components ≡ ring.add (ring.add (ring.add (a .components) (b .components)) (c .components)) (d .components) ⌝ }
 {

@@ -2,9 +2,9 @@
 -- Assumes nothing.
 use mathlib.Core.Path.{_≡_, ap}
 use Prim.Native.Nat.{ℕ, suc, _+_, _*_, _-_, _/_, _≤_, _<_}
-use native.Mathlib.Nat.{mul-div-le, lt-mul-div-succ, mul-div-right, div-eq-of-lt-le, div-le-of-le-mul, div-lt-iff-lt-mul}
+use native.Mathlib.Nat.{mul-div-le, lt-mul-div-succ, mul-div-right, div-eq-of-lt-le}
 use native.Mathlib.Omega.{arith}
-use lib.IntN.{ℤ, pos, negsuc, _+ℤ_, _*ℤ_, natAbs}
+use lib.IntN.{ℤ, pos, negsuc, _+ℤ_, _*ℤ_}
 use lib.Signed.{_≤ℤ_, _<ℤ_, shrZ}
 use Rattle.integers.proofs.Integer.{up, down, as-dif, dif-le, dif-lt, difs}
 
@@ -20,14 +20,9 @@ pub rounded-down : (z : ℤ) (m : ℕ) → 0 < m → ((pos m *ℤ shrZ z m) ≤�
 rounded-down (pos a) m h = by-parts (pos a) (pos (a / m)) m (omega (arith, mul-div-le a m)) (omega (arith, lt-mul-div-succ a h))
 rounded-down (negsuc a) m h = by-parts (negsuc a) (negsuc (a / m)) m (omega (arith, lt-mul-div-succ a h)) (omega (arith, mul-div-le a m))
 
--- it is exact for a multiple of m, and small where z is
-
+-- it is exact for a multiple of m
 pub shrZ-exact : (m : ℕ) (z : ℤ) → 0 < m → shrZ (pos m *ℤ z) m ≡ z
 shrZ-exact m (pos a) h = ap pos (mul-div-right a h)
 shrZ-exact m (negsuc a) h =
     let e : m * suc a ≡ suc (a * m + (m - 1)) = omega arith in
     rw e (ap negsuc (div-eq-of-lt-le m (omega arith) (omega arith)))
-
-pub shrZ-small : (m B : ℕ) (z : ℤ) → 0 < m → natAbs z ≤ m * B → natAbs (shrZ z m) ≤ B
-shrZ-small m B (pos a) h l = div-le-of-le-mul m l
-shrZ-small m B (negsuc a) h l = div-lt-iff-lt-mul h .1 (omega arith)

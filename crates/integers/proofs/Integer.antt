@@ -127,8 +127,9 @@ dif-lt a b c d =
     let (l, r, s) = common c d in
     (λ h. let t = lt-parts (dif a b) (dif c d) .0 h in omega arith, λ h. lt-parts (dif a b) (dif c d) .1 (omega arith))
 
-pub dif-natAbs : (a b : ℕ) → natAbs (dif a b) ≤ a + b
-dif-natAbs a b = by-order a b (λ z. natAbs z ≤ a + b) (λ n p. omega arith) (λ n p. omega arith)
+pub dif-natAbs : (a b n : ℕ) → (natAbs (dif a b) ≤ n) ↔ ((a ≤ b + n) × (b ≤ a + n))
+dif-natAbs a b n =
+    by-order a b (λ z. (natAbs z ≤ n) ↔ ((a ≤ b + n) × (b ≤ a + n))) (λ m p. omega arith) (λ m p. omega arith)
 
 -- the converse of `dif-same`
 pub same-dif : (a b c d : ℕ) → dif a b ≡ dif c d → a + d ≡ c + b

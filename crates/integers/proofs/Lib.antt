@@ -2,6 +2,7 @@
 pub mod Integer
 pub mod Magnitudes
 pub mod Division
+pub mod Nearest
 pub mod Signed
 pub mod Sums
 pub mod Search

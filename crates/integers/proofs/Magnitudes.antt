@@ -3,7 +3,7 @@
 use mathlib.Core.Path.{_≡_, refl, sym}
 use Prim.Native.Nat.{zero, suc, _+_, _*_, _^_, _≤_, _<_}
 use native.Mathlib.Omega.{arith}
-use native.Mathlib.Nat.{add-zero, zero-add, le-refl, le-trans, le-suc, lt-of-le-of-lt}
+use native.Mathlib.Nat.{add-zero, zero-add, le-refl, le-suc, lt-of-le-of-lt}
 use lib.IntN.{ℤ, pos, negsuc, _+ℤ_, _-ℤ_, _*ℤ_, negℤ, natAbs}
 use lib.Signed.{mag}
 use mir.Syntax.{Width}
@@ -27,7 +27,7 @@ natAbs-parts (negsuc n) = sym (zero-add (suc n))
 
 pub natAbs-add : (a b : ℤ) → natAbs (a +ℤ b) ≤ natAbs a + natAbs b
 natAbs-add a b =
-    rw (natAbs-parts a, natAbs-parts b, add-parts a b) (le-trans (dif-natAbs (up a + up b) (down a + down b)) (omega arith))
+    rw (natAbs-parts a, natAbs-parts b, add-parts a b) (dif-natAbs _ _ _ .1 (omega arith))
 
 pub natAbs-sub : (a b : ℤ) → natAbs (a -ℤ b) ≤ natAbs a + natAbs b
 natAbs-sub a b = rw (natAbs-neg b) at (natAbs-add a (negℤ b))

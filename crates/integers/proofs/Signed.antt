@@ -13,6 +13,20 @@ use mir.Val.{Fits, SFits, hbits, ofZ, toZ}
 use mir.ValLaws.{toZ-ofZ}
 use Rattle.integers.proofs.Magnitudes.{natAbs-sub, small-fits}
 
+-- a number as it is read back from the bits of an i32 and of an i64
+abbrev pub in32 : ℤ → ℤ
+in32 z = toZ w32 (ofZ w32 z)
+
+abbrev pub in64 : ℤ → ℤ
+in64 z = toZ w64 (ofZ w64 z)
+
+-- it is the number itself where that fits
+pub read-i32 : (z : ℤ) → SFits w32 z → in32 z ≡ z
+read-i32 z h = toZ-ofZ w32 z h
+
+pub read-i64 : (z : ℤ) → SFits w64 z → in64 z ≡ z
+read-i64 z h = toZ-ofZ w64 z h
+
 pub kept : (w : Width) (z : ℤ) → natAbs z < 2 ^ hbits w → toZ w (ofZ w z) ≡ z
 kept w z h = toZ-ofZ w z (small-fits w z h)
 

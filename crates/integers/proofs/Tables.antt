@@ -1,7 +1,7 @@
 -- Lists given by a rule, and the invariant of a loop that fills a buffer from the front.
 -- Assumes nothing.
 use mathlib.Core.Path.{_≡_, refl, sym, ap, ap₂, _∙_}
-use mathlib.Core.List.{List, _∷_}
+use mathlib.Core.List.{List, [], _∷_}
 use Prim.Native.Nat.{ℕ, zero, suc, _+_, _≤_, _<_, zero-le}
 use native.Mathlib.Omega.{arith}
 use native.Mathlib.Nat.{le-of-suc-le-suc, not-suc-le-zero}
@@ -29,6 +29,25 @@ module _ {A : Type 0} where
   pub table-ext : (n : ℕ) (f g : ℕ → A) → ((k : ℕ) → k < n → f k ≡ g k) → table n f ≡ table n g
   table-ext zero f g h = refl
   table-ext (suc n) f g h = ap₂ _∷_ (h zero (omega arith)) (table-ext n (λ k. f (suc k)) (λ k. g (suc k)) (λ k b. h (suc k) (omega arith)))
+
+-- a list that is written out: P holds at each index
+
+module _ {A : Type 0} (none : A) (P : ℕ → A → Type 0) where
+  pub listed-4 : {a b c d : A} → P 0 a → P 1 b → P 2 c → P 3 d → (k : ℕ) → k < 4 → P k (getD (a ∷ b ∷ c ∷ d ∷ []) k none)
+  listed-4 p q r s zero h = p
+  listed-4 p q r s (suc zero) h = q
+  listed-4 p q r s (suc (suc zero)) h = r
+  listed-4 p q r s (suc (suc (suc zero))) h = s
+  listed-4 p q r s (suc (suc (suc (suc k)))) h = absurd (omega arith)
+
+module _ {A : Type 0} (none : A) (P : ℕ → A → Type 0) where
+  pub listed-8 : {a b c d e f g h : A} → P 0 a → P 1 b → P 2 c → P 3 d → P 4 e → P 5 f → P 6 g → P 7 h
+      → (k : ℕ) → k < 8 → P k (getD (a ∷ b ∷ c ∷ d ∷ e ∷ f ∷ g ∷ h ∷ []) k none)
+  listed-8 p q r s t u v w zero l = p
+  listed-8 p q r s t u v w (suc zero) l = q
+  listed-8 p q r s t u v w (suc (suc zero)) l = r
+  listed-8 p q r s t u v w (suc (suc (suc zero))) l = s
+  listed-8 p q r s t u v w (suc (suc (suc (suc k)))) l = listed-4 none (λ k. P (suc (suc (suc (suc k))))) t u v w k (omega arith)
 
 -- a loop that fills a buffer from the front
 

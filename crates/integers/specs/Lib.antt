@@ -1,3 +1,4 @@
+pub mod Nearest
 pub mod Search
 pub mod Sum
 pub mod Table

@@ -17,10 +17,11 @@ use mir.Val.{ofZ, toZ}
 use borrow.Author.Tests.{eq-eqb}
 use Rattle.integers.specs.Test.{eqList}
 use Rattle.integers.proofs.Tests.{holds, fails, every-at, every-passes, eqList→≡, eqList-refl}
-use Rattle.dct.specs.Limits.{places, components-size, in-range}
+use Rattle.limits.specs.Limits.{places-in, components-in, in-range}
 use Rattle.answers.specs.Answer.{accepted}
-use Rattle.transform.specs.Forward.{sample, AllInRange, elements-of, forward-returned, forward-elements}
-use Rattle.transform.proofs.Refusals.{accepts, accepted-means, accepted-leaves}
+use Rattle.element_sets.specs.Sets.{sample, AllInRange, elements-of}
+use Rattle.transform.specs.Forward.{forward-returned, forward-elements}
+use Rattle.transform.proofs.Acceptance.{accepts, accepted-means, accepted-leaves}
 use Rattle.inverse.specs.Back.{all-in-range, is-block-of}
 
 -- two buffers, number by number
@@ -73,20 +74,21 @@ agreed-all a b {n} {i} {r} p q l A = go r A
 
 -- the range, as a test and as a fact
 
-pub range-at : (x : List ℤ) → T (all-in-range x) → AllInRange x
-range-at x t = record { at = λ i h. holds _ (every-at places (λ i. in-range (sample x i)) t i h) }
+module _ (d : ℕ) (x : List ℤ) where
+  pub range-at : T (all-in-range d x) → AllInRange d x
+  range-at t = record { at = λ i h. holds _ (every-at (places-in d) (λ i. in-range (sample x i)) t i h) }
 
-pub range-test : (x : List ℤ) → AllInRange x → T (all-in-range x)
-range-test x range = every-passes places (λ i. in-range (sample x i)) (λ i h. rw (range .at i h) tt)
+  pub range-test : AllInRange d x → T (all-in-range d x)
+  range-test range = every-passes (places-in d) (λ i. in-range (sample x i)) (λ i h. rw (range .at i h) tt)
 
--- forward of the block x, into a buffer that holds `made`
-module _ (e x made : List ℤ) where
-  pub forward-refuses : length x ≡ places → length made ≡ components-size → (forward-returned x made .number ≡ 0 → ⊥) → false ≡ is-block-of e x
-  forward-refuses s l n =
-      sym (fails (is-block-of e x)
-      (λ t. n (ap (λ r. r .number) (accepts x made s l (range-at x (and-yes (all-in-range x) (eqList (elements-of x) e) t .0))))))
+  -- forward of the block x, into a buffer that holds `made`
+  module _ (e made : List ℤ) where
+    pub forward-refuses : length x ≡ places-in d → length made ≡ components-in d → (forward-returned d x made .number ≡ 0 → ⊥) → false ≡ is-block-of d e x
+    forward-refuses s l n =
+        sym (fails (is-block-of d e x)
+        (λ t. n (ap (λ r. r .number) (accepts d x made s l (range-at (and-yes (all-in-range d x) (eqList (elements-of d x) e) t .0))))))
 
-  pub forward-accepts : forward-returned x made .number ≡ 0 → eqList (forward-elements x made) e ≡ is-block-of e x
-  forward-accepts h =
-      let t : T (accepted (forward-returned x made)) = rw (eq-eqb (forward-returned x made .number) 0 h) tt in
-      rw (accepted-leaves x made t, holds (all-in-range x) (range-test x (accepted-means x made t .2)))
+    pub forward-accepts : forward-returned d x made .number ≡ 0 → eqList (forward-elements d x made) e ≡ is-block-of d e x
+    forward-accepts h =
+        let t : T (accepted (forward-returned d x made)) = rw (eq-eqb (forward-returned d x made .number) 0 h) tt in
+        rw (accepted-leaves d x made t, holds (all-in-range d x) (range-test (accepted-means d x made t .2)))

@@ -4,44 +4,46 @@
 -- Assumes nothing.
 use mathlib.Core.Path.{_≡_, sym, ap, _∙_}
 use mathlib.Core.Logic.{_↔_}
-use mathlib.Core.Bool.{_&&_}
+use mathlib.Core.Bool.{false}
 use mathlib.Core.List.{List}
 use Prim.Native.Nat.{ℕ, _+_, _*_, _/_, _%_, _<_}
 use native.Mathlib.Decide.{ℕ-discrete}
 use native.Mathlib.Omega.{arith}
-use lib.Dec.{T, eqb, eqb→eq}
+use lib.Dec.{T, lit<}
 use lib.IntN.{ℤ, pos}
 use lib.ListN.{length, getD}
-use mir.Facts.{and-yes}
 use Rattle.integers.proofs.Tables.{is-table}
 use Rattle.integers.proofs.Tests.{fails}
+use Rattle.limits.specs.Limits.{places, components-size, magnitudes-limit}
 use Rattle.ring.specs.Element.{component}
-use Rattle.dct.specs.Limits.{places, components-size}
 use Rattle.dct.specs.Transform.{element}
 use Rattle.dct.proofs.Dimensions.{element-double-sum}
-use Rattle.answers.specs.Answer.{Returned, unless, lowest, accept, accepted}
-use Rattle.answers.proofs.Accepted.{unless-passes, unless-accepted, lowest-accepted, accepted-written}
-use Rattle.transform.specs.Forward.{sample, AllInRange, elements-of, forward-returned, forward-elements}
-use Rattle.transform.proofs.Refusals as forward
-use Rattle.transform.proofs.Meaning.{length-elements, component-of}
-use Rattle.accepted_sets.specs.Sets.{above-limit, AcceptedSet}
-use Rattle.accepted_sets.proofs.BlockSets.{block-set}
-use Rattle.accepted_sets.proofs.Limit.{passed}
-use Rattle.inverse.specs.Back.{candidate, is-block-of, back-returned, back-samples, HasElements}
+use Rattle.answers.specs.Answer as answers
+use Rattle.answers.specs.Answer.{Returned, Reason, holds, passes, accept, accepted}
+use Rattle.answers.proofs.Causes as causes
+use Rattle.answers.proofs.Causes.{only-reason}
+use Rattle.answers.proofs.Lengths.{both-right, right-both}
+use Rattle.element_sets.specs.Sets.{sample, AllInRange, elements-of, AcceptedSet}
+use Rattle.element_sets.proofs.Blocks.{length-elements, block-set}
+use Rattle.element_sets.proofs.Limit.{none-above, passed}
+use Rattle.transform.specs.Forward.{forward-returned, forward-elements}
+use Rattle.transform.proofs.Acceptance as forward
+use Rattle.transform.proofs.Meaning.{component-of}
+use Rattle.inverse.specs.Back.{candidate, is-block-of, back-causes, back-returned, back-samples, HasElements}
 use Rattle.inverse.proofs.Candidate.{length-candidate, test-block, block-facts, only-candidate}
-use Rattle.inverse.proofs.Causes.{decided, wrong-samples}
+use Rattle.inverse.proofs.Causes.{wrong-samples}
 
 -- a block that has the elements, in the words of forward's definition
 
-has-elements : (x e : List ℤ) → length x ≡ places → AllInRange x → elements-of x ≡ e → HasElements x e
+has-elements : (x e : List ℤ) → length x ≡ places → AllInRange 2 x → elements-of 2 x ≡ e → HasElements x e
 has-elements x e size range has = record {
   size = size;
   range = range;
-  whole = rw (← has) (length-elements x);
+  whole = rw (← has) (length-elements 2 x);
   components = λ u v k h l m. rw (← has) (component-of x u v k h l m);
 }
 
-elements-are : {x e : List ℤ} → HasElements x e → elements-of x ≡ e
+elements-are : {x e : List ℤ} → HasElements x e → elements-of 2 x ≡ e
 unfolding elements-of
 elements-are {x} {e} H = sym (is-table (pos 0) e components-size (λ i. component (element 2 (sample x) (i / 8)) (i % 8)) (H .whole) at)
   where
@@ -54,61 +56,79 @@ elements-are {x} {e} H = sym (is-table (pos 0) e components-size (λ i. componen
         let there = rw (number, index) at (H .components u v (i % 8) (omega arith) (omega arith) (omega arith)) in
         there ∙ ap (λ a. component a (i % 8)) (sym (rw number at (element-double-sum (sample x) u v (omega arith) (omega arith))))
 
-is-candidate : {x e : List ℤ} → HasElements x e → candidate e ≡ x
-is-candidate {x} {e} H = only-candidate e x (H .size) (elements-are H)
+is-candidate : {x e : List ℤ} → HasElements x e → candidate 2 e ≡ x
+is-candidate {x} {e} H = only-candidate 2 e x (H .size) (elements-are H)
 
 -- which calls are accepted
 
-no-cause : (e s : List ℤ) → T (accepted (back-returned e s)) → AcceptedSet e × (length s ≡ places) × T (is-block-of e (candidate e))
+no-cause : (e s : List ℤ) → T (accepted (back-returned 2 e s)) → AcceptedSet places magnitudes-limit e × (length s ≡ places) × T (is-block-of 2 e (candidate 2 e))
 unfolding back-returned
 no-cause e s h =
-    let lengths = eqb (length e) components-size && eqb (length s) places in
-    let last = unless (is-block-of e (candidate e)) 5 accept in
-    let (both, rest) = unless-accepted lengths 0 (lowest places (above-limit e) 4 last) h in
-    let (l, k) = and-yes (eqb (length e) components-size) (eqb (length s) places) both in
-    let (none, end) = lowest-accepted places (above-limit e) 3 last rest in
-    (passed (eqb→eq (length e) components-size l) none, eqb→eq (length s) places k, unless-accepted (is-block-of e (candidate e)) 4 accept end .0)
+    let (lengths, rest) = causes.accepted-means (back-causes 2 e s) accept (lit< tt, ((λ i f. lit< tt), (lit< tt, tt))) h in
+    let (l, k) = right-both (length e) components-size (length s) places lengths in
+    (passed l (rest .0), k, rest .1 .0)
 
-accepted-leaves : (e s : List ℤ) → T (accepted (back-returned e s)) → back-samples e s ≡ candidate e
+accepted-leaves : (e s : List ℤ) → T (accepted (back-returned 2 e s)) → back-samples 2 e s ≡ candidate 2 e
 unfolding back-samples
-accepted-leaves e s = accepted-written (back-returned e s) (candidate e) s
+accepted-leaves e s = causes.accepted-leaves (back-returned 2 e s) (candidate 2 e) s
+
+-- a call has a reason, and no other answer has one
+
+pub reason : (e s : List ℤ) → Reason accept (back-causes 2 e s) (back-returned 2 e s)
+unfolding back-returned
+reason e s = causes.some-reason (back-causes 2 e s) accept
+
+pub returned : (e s : List ℤ) {r : Returned} → Reason accept (back-causes 2 e s) r → r ≡ back-returned 2 e s
+unfolding back-returned
+returned e s = only-reason
+
+-- a refused call leaves the buffer as it was
+pub refused-leaves : (e s : List ℤ) → accepted (back-returned 2 e s) ≡ false → back-samples 2 e s ≡ s
+unfolding back-samples
+refused-leaves e s = causes.refused-leaves (back-returned 2 e s) (candidate 2 e) s
 
 -- an accepted call had an accepted set and 64 samples, and leaves a block that has the elements
-pub accepted-means : (e s : List ℤ) → T (accepted (back-returned e s)) → AcceptedSet e × (length s ≡ places) × HasElements (back-samples e s) e
+pub accepted-means : (e s : List ℤ) → T (accepted (back-returned 2 e s)) → AcceptedSet places magnitudes-limit e × (length s ≡ places) × HasElements (back-samples 2 e s) e
 accepted-means e s h =
     let (set, room, test) = no-cause e s h in
-    let (range, has) = block-facts e (candidate e) test in
-    (set, room, rw (accepted-leaves e s h) (has-elements (candidate e) e (length-candidate e) range has))
+    let (range, has) = block-facts 2 e (candidate 2 e) test in
+    (set, room, rw (accepted-leaves e s h) (has-elements (candidate 2 e) e (length-candidate 2 e) range has))
 
 module _ (e s : List ℤ) (room : length s ≡ places) where
+  accepted-by : AcceptedSet places magnitudes-limit e → T (is-block-of 2 e (candidate 2 e)) → back-returned 2 e s ≡ accept
+  unfolding back-returned
+  accepted-by set test = causes.accepts (back-causes 2 e s) accept (both-right (length e) components-size (length s) places (set .size) room, (none-above set, (test, tt)))
+
   -- where a block has the elements, the call is accepted and leaves that block
-  pub accepts : (x : List ℤ) → HasElements x e → (back-returned e s ≡ accept) × (back-samples e s ≡ x)
+  pub accepts : (x : List ℤ) → HasElements x e → (back-returned 2 e s ≡ accept) × (back-samples 2 e s ≡ x)
   accepts x H =
-      let set : AcceptedSet e = rw (elements-are H) at (block-set x (H .range)) in
-      let test : T (is-block-of e (candidate e)) = rw (is-candidate H) (test-block e x (H .range) (elements-are H)) in
-      let answer : back-returned e s ≡ accept = decided e s set room ∙ unless-passes (is-block-of e (candidate e)) 5 accept test in
+      let set : AcceptedSet places magnitudes-limit e = rw (elements-are H) at (block-set 1 x (H .range)) in
+      let test : T (is-block-of 2 e (candidate 2 e)) = rw (is-candidate H) (test-block 2 e x (H .range) (elements-are H)) in
+      let answer = accepted-by set test in
       (answer, accepted-leaves e s (rw answer tt) ∙ is-candidate H)
 
   -- so it is accepted exactly when some block has them
-  pub exactly : T (accepted (back-returned e s)) ↔ ((x : List ℤ) × HasElements x e)
-  exactly = (λ h. (back-samples e s, accepted-means e s h .2), λ (x, H). rw (accepts x H .0) tt)
+  pub exactly : T (accepted (back-returned 2 e s)) ↔ ((x : List ℤ) × HasElements x e)
+  exactly = (λ h. (back-samples 2 e s, accepted-means e s h .2), λ (x, H). rw (accepts x H .0) tt)
 
   -- where none has an accepted set, it is refused by cause 5, and the samples are as they were
-  pub refuses : AcceptedSet e → ((x : List ℤ) → HasElements x e → ⊥) → (back-returned e s ≡ record { number = 5; place = 0 }) × (back-samples e s ≡ s)
-  unfolding back-samples
+  pub refuses : AcceptedSet places magnitudes-limit e → ((x : List ℤ) → HasElements x e → ⊥) → (back-returned 2 e s ≡ record { number = 5; place = 0 }) × (back-samples 2 e s ≡ s)
+  unfolding back-returned back-samples
   refuses set none = (answer, rw answer)
     where
-      none-has : T (is-block-of e (candidate e)) → ⊥
-      none-has t = let (range, has) = block-facts e (candidate e) t in none (candidate e) (has-elements (candidate e) e (length-candidate e) range has)
+      none-has : T (is-block-of 2 e (candidate 2 e)) → ⊥
+      none-has t = let (range, has) = block-facts 2 e (candidate 2 e) t in none (candidate 2 e) (has-elements (candidate 2 e) e (length-candidate 2 e) range has)
 
-      answer : back-returned e s ≡ record { number = 5; place = 0 }
-      answer = decided e s set room ∙ rw (fails (is-block-of e (candidate e)) none-has)
+      answer : back-returned 2 e s ≡ record { number = 5; place = 0 }
+      answer =
+          sym (only-reason {l = back-causes 2 e s} (passes (both-right (length e) components-size (length s) places (set .size) room) (passes (none-above set)
+          (holds (answers.fails (fails (is-block-of 2 e (candidate 2 e)) none-has))))))
 
 -- and a refusal by cause 5 comes only where no block has them
-pub refused-means : (e s : List ℤ) → back-returned e s ≡ record { number = 5; place = 0 } → (x : List ℤ) → HasElements x e → ⊥
+pub refused-means : (e s : List ℤ) → back-returned 2 e s ≡ record { number = 5; place = 0 } → (x : List ℤ) → HasElements x e → ⊥
 refused-means e s r x H = go (ℕ-discrete (length s) places)
   where
-    five : (n i : ℕ) → record { number = n; place = i } ≡ back-returned e s → n ≡ 5
+    five : (n i : ℕ) → record { number = n; place = i } ≡ back-returned 2 e s → n ≡ 5
     five n i p = ap (λ (a : Returned). a .number) (p ∙ r)
 
     go : Dec (length s ≡ places) → ⊥
@@ -122,16 +142,16 @@ only-one e x y H K = sym (is-candidate H) ∙ is-candidate K
 -- round trips
 
 -- back of what forward writes is the block
-pub back-of-forward : (x e s : List ℤ) → T (accepted (forward-returned x e)) → length s ≡ places
-    → (back-returned (forward-elements x e) s ≡ accept) × (back-samples (forward-elements x e) s ≡ x)
+pub back-of-forward : (x e s : List ℤ) → T (accepted (forward-returned 2 x e)) → length s ≡ places
+    → (back-returned 2 (forward-elements 2 x e) s ≡ accept) × (back-samples 2 (forward-elements 2 x e) s ≡ x)
 back-of-forward x e s h room =
-    let (size, whole, range) = forward.accepted-means x e h in
-    accepts (forward-elements x e) s room x (has-elements x (forward-elements x e) size range (sym (forward.accepted-leaves x e h)))
+    let (size, whole, range) = forward.accepted-means 2 x e h in
+    accepts (forward-elements 2 x e) s room x (has-elements x (forward-elements 2 x e) size range (sym (forward.accepted-leaves 2 x e h)))
 
 -- forward of what back writes is the elements
-pub forward-of-back : (e s t : List ℤ) → T (accepted (back-returned e s)) → length t ≡ components-size
-    → (forward-returned (back-samples e s) t ≡ accept) × (forward-elements (back-samples e s) t ≡ e)
+pub forward-of-back : (e s t : List ℤ) → T (accepted (back-returned 2 e s)) → length t ≡ components-size
+    → (forward-returned 2 (back-samples 2 e s) t ≡ accept) × (forward-elements 2 (back-samples 2 e s) t ≡ e)
 forward-of-back e s t h whole =
     let H = accepted-means e s h .2 in
-    let answer = forward.accepts (back-samples e s) t (H .size) whole (H .range) in
-    (answer, forward.accepted-leaves (back-samples e s) t (rw answer tt) ∙ elements-are H)
+    let answer = forward.accepts 2 (back-samples 2 e s) t (H .size) whole (H .range) in
+    (answer, forward.accepted-leaves 2 (back-samples 2 e s) t (rw answer tt) ∙ elements-are H)

@@ -12,19 +12,19 @@ ghost use lib.IntN.{pos};
 ghost use lib.ListN.{getD, length};
 ghost use Rattle.integers.specs.Search.{any};
 ghost use Rattle.integers.specs.Test.{eqList};
-ghost use Rattle.dct.specs.Limits.{components-size, places};
+ghost use Rattle.limits.specs.Limits.{components-size, places};
 ghost use Rattle.answers.specs.Answer.{returned};
-ghost use Rattle.passes_back.specs.Passes.{read-size};
+ghost use Rattle.inverse_passes.specs.Passes.{read-size};
 ghost use Rattle.inverse.specs.Back.{back-returned, back-samples, is-block-of};
 ghost use Rattle.inverse.specs.Refusal.{beyond-limit, refused-returned};
-use accepted_sets::MAGNITUDES_LIMIT;
-use accepted_sets::first_above_limit;
 use answers::Answer;
-use elements::COMPONENTS;
-use elements::PLACES;
+use element_sets::first_above;
 use integers::outside;
-use passes_back::READ_SIZE;
-use passes_back::restored;
+use inverse_passes::READ_SIZE;
+use inverse_passes::restored;
+use limits::COMPONENTS;
+use limits::MAGNITUDES_LIMIT;
+use limits::PLACES;
 use transform::forward;
 
 // Whether two buffers of 512 numbers hold the same. The loop goes on past a difference, so that the compiler can compare several numbers at once.
@@ -43,25 +43,27 @@ fn same(a: &[i32], b: &[i32]) -> bool
 }
 
 // Whether a block is in range and has these elements: forward accepts it, and makes the same 512 numbers.
-fn is_block_of(elements: &[i32], block: [i32; 64]) -> bool
+fn is_block_of(elements: &[i32], block: [i32; PLACES]) -> bool
     requires { ⌜ length (now elements) ≡ components-size ⌝ }
-    ensures { λ r. ⌜ r ≡ is-block-of (now (elements .entry)) block ⌝ }
+    ensures { λ r. ⌜ r ≡ is-block-of 2 (now (elements .entry)) block ⌝ }
 {
-    let mut made = [0i32; 512];
+    let mut made = [0i32; COMPONENTS];
     if answers::number(forward(&block, &mut made)) != 0 {
         return false;
     }
     same(&made, elements)
 }
 
-// The lowest number that is not above the limit of an element's magnitudes by itself; MAGNITUDES_LIMIT is the highest.
-const LOWEST_NUMBER: i32 = -MAGNITUDES_LIMIT;
+// The highest and the lowest number that are not above the limit of an element's magnitudes by themselves.
+const HIGHEST_NUMBER: i32 = MAGNITUDES_LIMIT as i32;
+
+const LOWEST_NUMBER: i32 = -HIGHEST_NUMBER;
 
 // Whether a number is above that limit by itself.
 fn above(x: i32) -> bool
     ensures { λ r. ⌜ r ≡ beyond-limit x ⌝ }
 {
-    outside(x, LOWEST_NUMBER, MAGNITUDES_LIMIT)
+    outside(x, LOWEST_NUMBER, HIGHEST_NUMBER)
 }
 
 // Whether any number that the passes read is so. The loop has no early exit, so that the compiler takes several numbers at a time.
@@ -83,7 +85,7 @@ fn refusal(elements: &[i32]) -> Answer
     requires { ⌜ length (now elements) ≡ components-size ⌝ }
     ensures { λ r. ⌜ returned r ≡ refused-returned (now (elements .entry)) ⌝ }
 {
-    let p = first_above_limit(elements);
+    let p = first_above(elements, PLACES, MAGNITUDES_LIMIT);
     if p < PLACES {
         return Answer::Magnitudes(p);
     }
@@ -91,7 +93,7 @@ fn refusal(elements: &[i32]) -> Answer
 }
 
 // A block into a buffer.
-fn store(block: [i32; 64], samples: &mut [i32])
+fn store(block: [i32; PLACES], samples: &mut [i32])
     requires { ⌜ length (now samples) ≡ places ⌝ }
     ensures { λ r. ⌜ now (samples .exit) ≡ block ⌝ }
 {
@@ -104,8 +106,8 @@ fn store(block: [i32; 64], samples: &mut [i32])
 
 // The block of 64 samples that has these elements, or the reason why it is not written; then `samples` is as it was.
 pub fn back(elements: &[i32], samples: &mut [i32]) -> Answer
-    ensures { λ r. ⌜ returned r ≡ back-returned (now (elements .entry)) (now (samples .entry)) ⌝ }
-    ensures { λ r. ⌜ now (samples .exit) ≡ back-samples (now (elements .entry)) (now (samples .entry)) ⌝ }
+    ensures { λ r. ⌜ returned r ≡ back-returned 2 (now (elements .entry)) (now (samples .entry)) ⌝ }
+    ensures { λ r. ⌜ now (samples .exit) ≡ back-samples 2 (now (elements .entry)) (now (samples .entry)) ⌝ }
 {
     if elements.len() != COMPONENTS {
         return Answer::Lengths;

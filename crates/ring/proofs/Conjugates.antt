@@ -10,12 +10,12 @@ use Rattle.integers.specs.Table.{table}
 use Rattle.integers.specs.Test.{every, eqList}
 use Rattle.integers.proofs.Integer.{*ℤ-pos1, *ℤ-minus-one}
 use Rattle.integers.proofs.Tests.{every-at, every₂, every₂-at, eqList→≡}
-use Rattle.ring.specs.Element.{component, only, number, cosine, basis-product, mul}
+use Rattle.ring.specs.Element.{component, only, integer, cosine, basis-product, mul}
 use Rattle.ring.specs.Maps.{fivefold, conjugate}
 use Rattle.ring.proofs.Linear.{LinearMap, linear-self, linear-after, linear-combination}
 use Rattle.ring.proofs.Product.{mul-left, mul-right}
 use Rattle.ring.proofs.Components.{Eight, by-components, linear-same}
-use Rattle.ring.proofs.Ring.{scale-number}
+use Rattle.ring.proofs.Ring.{scale-integer}
 
 pub linear-conjugate : LinearMap conjugate
 unfolding conjugate
@@ -42,11 +42,11 @@ conjugate-product {a} {b} p q =
         linear-same (λ x. conjugate (mul x c)) (λ x. mul (conjugate x) (conjugate c)) (linear-after linear-conjugate (mul-left c))
         (linear-after (mul-left (conjugate c)) linear-conjugate) (λ i l. eqList→≡ _ _ (every₂-at 8 pair-at pair-test i j l h)) p
 
-pub conjugate-number : (s : ℤ) → conjugate (number s) ≡ number s
+pub conjugate-integer : (s : ℤ) → conjugate (integer s) ≡ integer s
 unfolding conjugate cosine
-conjugate-number s =
-    ap conjugate (sym (scale-number s (pos 1) ∙ ap number (*ℤ-pos1 s))) ∙ linear-conjugate .multiples s (number (pos 1)) ∙ scale-number s (pos 1)
-    ∙ ap number (*ℤ-pos1 s)
+conjugate-integer s =
+    ap conjugate (sym (scale-integer s (pos 1) ∙ ap integer (*ℤ-pos1 s))) ∙ linear-conjugate .multiples s (integer (pos 1)) ∙ scale-integer s (pos 1)
+    ∙ ap integer (*ℤ-pos1 s)
 
 -- component by component
 conjugate-table : (u : ℕ → ℤ) → conjugate (table 8 u) ≡ u 0 ∷ negℤ (u 3) ∷ u 6 ∷ u 7 ∷ negℤ (u 4) ∷ u 1 ∷ negℤ (u 2) ∷ u 5 ∷ []

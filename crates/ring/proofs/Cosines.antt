@@ -11,11 +11,11 @@ use lib.IntN.{ℤ, pos, negsuc, _+ℤ_, _-ℤ_, negℤ, +ℤ-comm, +ℤ-assoc, +
 use Rattle.integers.specs.Test.{eqList}
 use Rattle.integers.proofs.Integer.{sub-sub}
 use Rattle.integers.proofs.Tests.{every₂, every₂-at, eqList→≡}
-use Rattle.ring.specs.Element.{add, negate, subtract, number, full-turn, cosine, basis-product, mul}
+use Rattle.ring.specs.Element.{add, negate, subtract, integer, full-turn, cosine, basis-product, mul}
 use Rattle.ring.proofs.Linear.{add-comm, scale-scale, scale-one}
 use Rattle.ring.proofs.Product.{cosine-neg, cosine-difference, mul-comm}
 use Rattle.ring.proofs.Components.{eight-cosine}
-use Rattle.ring.proofs.Ring.{negative-of, mul-number, scale-zero}
+use Rattle.ring.proofs.Ring.{negative-of, mul-integer, scale-zero}
 
 -- c_i × c_j = c_(i+j) + c_(i-j)
 
@@ -73,11 +73,11 @@ cosine-product i j = rule i j .holds
 
 -- the other rules
 
-pub cosine-0 : cosine (pos 0) ≡ number (pos 2)
+pub cosine-0 : cosine (pos 0) ≡ integer (pos 2)
 unfolding cosine
 cosine-0 = refl
 
-pub cosine-8 : cosine (pos 8) ≡ number (pos 0)
+pub cosine-8 : cosine (pos 8) ≡ integer (pos 0)
 unfolding cosine
 cosine-8 = refl
 
@@ -91,8 +91,8 @@ cosine-16 m = negative-of (eight-cosine (pos 16 -ℤ m)) (eight-cosine m) (sym s
     sum : mul (cosine (pos 8)) (cosine k) ≡ add (cosine (pos 16 -ℤ m)) (cosine m)
     sum = cosine-product (pos 8) k ∙ ap₂ add (ap cosine (sym (+ℤ-assoc (pos 8) (pos 8) (negℤ m)))) (ap cosine (sub-sub (pos 8) m))
 
-    none : mul (cosine (pos 8)) (cosine k) ≡ number (pos 0)
-    none = ap (λ a. mul a (cosine k)) cosine-8 ∙ mul-number (pos 0) (eight-cosine k) ∙ scale-zero (eight-cosine k)
+    none : mul (cosine (pos 8)) (cosine k) ≡ integer (pos 0)
+    none = ap (λ a. mul a (cosine k)) cosine-8 ∙ mul-integer (pos 0) (eight-cosine k) ∙ scale-zero (eight-cosine k)
 
 -- half a turn, twice
 pub cosine-32 : (m : ℤ) → cosine (pos 32 +ℤ m) ≡ cosine m
@@ -104,19 +104,19 @@ cosine-32 m =
     half-a-turn k =
         ap (λ (z : ℤ). cosine (pos 16 +ℤ z)) (sym (negℤ-negℤ k)) ∙ cosine-16 (negℤ k) ∙ ap negate (cosine-neg k)
 
--- the squares that 01's cuts rest on
+-- the squares by which 01 places a fraction against a cosine
 
 -- c_m² = 2 + c_(2m), which serves c_1, c_2 and c_3
-pub cosine-square : (m : ℤ) → mul (cosine m) (cosine m) ≡ add (number (pos 2)) (cosine (m +ℤ m))
+pub cosine-square : (m : ℤ) → mul (cosine m) (cosine m) ≡ add (integer (pos 2)) (cosine (m +ℤ m))
 cosine-square m =
     cosine-product m m ∙ add-comm (cosine (m +ℤ m)) (cosine (m -ℤ m)) ∙ ap (λ (z : ℤ). add (cosine z) (cosine (m +ℤ m))) (+ℤ-invr m)
     ∙ ap (λ a. add a (cosine (m +ℤ m))) cosine-0
 
 -- c_m² = 2 - c_(16-2m), which serves c_5, c_6 and c_7
-pub cosine-square-minus : (m : ℤ) → mul (cosine m) (cosine m) ≡ subtract (number (pos 2)) (cosine (pos 16 -ℤ (m +ℤ m)))
+pub cosine-square-minus : (m : ℤ) → mul (cosine m) (cosine m) ≡ subtract (integer (pos 2)) (cosine (pos 16 -ℤ (m +ℤ m)))
 cosine-square-minus m =
-    cosine-square m ∙ ap (add (number (pos 2))) (ap cosine (sym (sub-sub (pos 16) (m +ℤ m))) ∙ cosine-16 (pos 16 -ℤ (m +ℤ m)))
+    cosine-square m ∙ ap (add (integer (pos 2))) (ap cosine (sym (sub-sub (pos 16) (m +ℤ m))) ∙ cosine-16 (pos 16 -ℤ (m +ℤ m)))
 
 -- c_4² = 2, since c_8 = 0
-pub cosine-4-square : mul (cosine (pos 4)) (cosine (pos 4)) ≡ number (pos 2)
-cosine-4-square = cosine-square (pos 4) ∙ ap (add (number (pos 2))) cosine-8
+pub cosine-4-square : mul (cosine (pos 4)) (cosine (pos 4)) ≡ integer (pos 2)
+cosine-4-square = cosine-square (pos 4) ∙ ap (add (integer (pos 2))) cosine-8

@@ -39,14 +39,14 @@ abbrev pub only : ℤ → ℕ → List ℤ
 only s k = table 8 (λ i. cond (eqb i k) s (pos 0))
 
 -- the whole number s as an element
-abbrev pub number : ℤ → List ℤ
-number s = only s 0
+abbrev pub integer : ℤ → List ℤ
+integer s = only s 0
 
 -- c_m for every whole m, by 01's rules
 
 -- m from 0 to 8: c_0 = 2, each of c_1 to c_7 is counted by a component of its own, c_8 = 0
 abbrev pub quarter-turn : ℕ → List ℤ
-quarter-turn zero = number (pos 2)
+quarter-turn zero = integer (pos 2)
 quarter-turn (suc k) = only (pos 1) (suc k)
 
 -- m from 0 to 16: past 8, c_m = -c_(16-m)
@@ -65,7 +65,7 @@ cosine m = full-turn (natAbs m % 32)
 
 -- the product of the numbers that components i and j count, which are 1 and the c_k: 1 × c_j = c_j, c_i × c_j = c_(i+j) + c_(i-j)
 abbrev pub by-rule : ℕ → ℕ → List ℤ
-by-rule zero zero = number (pos 1)
+by-rule zero zero = integer (pos 1)
 by-rule zero (suc j) = cosine (pos (suc j))
 by-rule (suc i) zero = cosine (pos (suc i))
 by-rule (suc i) (suc j) = add (cosine (pos (suc i) +ℤ pos (suc j))) (cosine (pos (suc i) -ℤ pos (suc j)))

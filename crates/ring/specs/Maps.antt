@@ -2,15 +2,15 @@
 use mathlib.Core.List.{List, [], _∷_}
 use Prim.Native.Nat.{ℕ, zero, suc, _*_}
 use lib.IntN.{ℤ, pos, _+ℤ_, _*ℤ_}
-use Rattle.ring.specs.Element.{component, number, cosine, combine}
+use Rattle.ring.specs.Element.{component, integer, cosine, combine}
 
 -- the whole number that component k is, as an element
 abbrev pub part : List ℤ → ℕ → List ℤ
-part a k = number (component a k)
+part a k = integer (component a k)
 
 -- 1, and c_5k in place of c_k
 abbrev pub fivefold : ℕ → List ℤ
-fivefold zero = number (pos 1)
+fivefold zero = integer (pos 1)
 fivefold (suc k) = cosine (pos (5 * suc k))
 
 -- the conjugate of an element: the map of the ring to itself that takes c_k to c_5k

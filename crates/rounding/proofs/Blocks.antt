@@ -2,63 +2,69 @@
 -- elements that forward writes for a block in range, is one.
 -- Assumes nothing.
 use mathlib.Core.Path.{_≡_, refl}
-use mathlib.Core.Bool.{_&&_}
+use mathlib.Core.Bool.{false}
 use mathlib.Core.List.{List}
-use Prim.Native.Nat.{ℕ, _+_, _≤_, _<_}
-use lib.Dec.{T, eqb, eqb→eq}
+use Prim.Native.Nat.{ℕ, _≤_, _<_}
+use lib.Dec.{T, lit<}
 use lib.IntN.{ℤ, pos, natAbs}
 use lib.ListN.{length, getD}
-use mir.Facts.{and-yes}
-use borrow.Author.Tests.{eq-eqb}
 use Rattle.integers.proofs.Tables.{getD-table}
-use Rattle.dct.specs.Limits.{places, components-size, magnitudes-limit}
-use Rattle.cuts.specs.Width.{coefficient}
-use Rattle.elements.specs.Buffer.{element-at}
-use Rattle.answers.specs.Answer.{unless, lowest, accept, accepted}
-use Rattle.answers.proofs.Accepted.{unless-passes, lowest-passes, unless-accepted, lowest-accepted}
-use Rattle.transform.specs.Forward.{AllInRange, elements-of, forward-returned, forward-elements}
-use Rattle.accepted_sets.specs.Sets.{AcceptedSet, above-limit}
-use Rattle.accepted_sets.proofs.Limit.{none-above, passed}
-use Rattle.accepted_sets.proofs.BlockSets.{block-set, forward-set}
+use Rattle.limits.specs.Limits.{places, components-size, magnitudes-limit}
+use Rattle.answers.specs.Answer.{Returned, Reason, accept, accepted}
+use Rattle.answers.proofs.Causes as causes
+use Rattle.answers.proofs.Lengths.{both-right, right-both}
+use Rattle.element_sets.specs.Sets.{AllInRange, elements-of, AcceptedSet}
+use Rattle.element_sets.proofs.Blocks.{block-set}
+use Rattle.element_sets.proofs.Limit.{none-above, passed}
+use Rattle.transform.specs.Forward.{forward-returned, forward-elements}
+use Rattle.transform.proofs.Acceptance.{forward-set}
 use Rattle.rounding.specs.Preconditions.{Ready}
-use Rattle.rounding.specs.Rounding.{coefficients-of, round-returned}
-use Rattle.rounding.specs.Tables.{width, numbers}
+use Rattle.rounding.specs.Rounding.{coefficient-at, coefficients-of, round-causes, round-returned, round-coefficients}
+use Rattle.rounding.specs.Tables.{width}
 use Rattle.rounding.proofs.Sizes.{sized, coefficient-small}
 
-pub accepts : {e : List ℤ} {b : ℕ} {c : List ℤ} → Ready e b c → round-returned e b c ≡ accept
+pub accepts : {e : List ℤ} {b : ℕ} {c : List ℤ} → Ready e b c → round-returned 2 e b c ≡ accept
 unfolding round-returned
 accepts {e} {b} {c} R =
-    rw (
-      eq-eqb (length e) components-size (R .ready-set .size),
-      eq-eqb (length c) places (R .coefficients-length),
-      unless-passes (width b) 3 _ (R .ready-width),
-    )
-    (lowest-passes places (above-limit e) 4 accept (none-above (R .ready-set)))
+    causes.accepts (round-causes 2 e b c) accept
+    (both-right (length e) components-size (length c) places (R .ready-set .size) (R .coefficients-length), (R .ready-width, (none-above (R .ready-set), tt)))
 
 -- and no other call is
-pub accepted-ready : (e : List ℤ) (b : ℕ) (c : List ℤ) → T (accepted (round-returned e b c)) → Ready e b c
+pub accepted-ready : (e : List ℤ) (b : ℕ) (c : List ℤ) → T (accepted (round-returned 2 e b c)) → Ready e b c
 unfolding round-returned
 accepted-ready e b c h =
-    let lengths = eqb (length e) components-size && eqb (length c) places in
-    let (both, rest) = unless-accepted lengths 0 (unless (width b) 3 (lowest places (above-limit e) 4 accept)) h in
-    let (s, t) = and-yes (eqb (length e) components-size) (eqb (length c) places) both in
-    let (w, last) = unless-accepted (width b) 2 (lowest places (above-limit e) 4 accept) rest in
-    let (none, done) = lowest-accepted places (above-limit e) 3 accept last in
-    record { ready-set = passed (eqb→eq (length e) components-size s) none; coefficients-length = eqb→eq (length c) places t; ready-width = w }
+    let (lengths, rest) = causes.accepted-means (round-causes 2 e b c) accept (lit< tt, (lit< tt, ((λ i f. lit< tt), tt))) h in
+    let (s, t) = right-both (length e) components-size (length c) places lengths in
+    record { ready-set = passed s (rest .1 .0); coefficients-length = t; ready-width = rest .0 }
+
+-- a call has a reason, and no other answer has one
+
+pub reason : (e : List ℤ) (b : ℕ) (c : List ℤ) → Reason accept (round-causes 2 e b c) (round-returned 2 e b c)
+unfolding round-returned
+reason e b c = causes.some-reason (round-causes 2 e b c) accept
+
+pub returned : (e : List ℤ) (b : ℕ) (c : List ℤ) {r : Returned} → Reason accept (round-causes 2 e b c) r → r ≡ round-returned 2 e b c
+unfolding round-returned
+returned e b c = causes.only-reason
+
+-- a refused call leaves the buffer as it was
+pub refused-leaves : (e : List ℤ) (b : ℕ) (c : List ℤ) → accepted (round-returned 2 e b c) ≡ false → round-coefficients 2 e b c ≡ c
+unfolding round-coefficients
+refused-leaves e b c = causes.refused-leaves (round-returned 2 e b c) (coefficients-of 2 b e) c
 
 -- how large a coefficient gets
-pub coefficient-size : {e : List ℤ} (b : ℕ) → AcceptedSet e → T (width b) → (p : ℕ) → p < places
-    → natAbs (getD (coefficients-of b e) p (pos 0)) ≤ magnitudes-limit + 1
+pub coefficient-size : {e : List ℤ} (b : ℕ) → AcceptedSet places magnitudes-limit e → T (width b) → (p : ℕ) → p < places
+    → natAbs (getD (coefficients-of 2 b e) p (pos 0)) ≤ magnitudes-limit
 coefficient-size {e} b S w p h =
-    rw (getD-table places (λ p. coefficient b (numbers b) (element-at e p)) (pos 0) p h)
+    rw (getD-table places (coefficient-at 2 b e) (pos 0) p h)
     (coefficient-small (sized (record { at-width = w; are-numbers = refl; in-limit = S .in-limit p h })))
 
 -- blocks' sets
 
-pub block-accepted : (x : List ℤ) → AllInRange x → (b : ℕ) → T (width b) → (c : List ℤ) → length c ≡ places → round-returned (elements-of x) b c ≡ accept
-block-accepted x range b w c l = accepts (record { ready-set = block-set x range; coefficients-length = l; ready-width = w })
+pub block-accepted : (x : List ℤ) → AllInRange 2 x → (b : ℕ) → T (width b) → (c : List ℤ) → length c ≡ places → round-returned 2 (elements-of 2 x) b c ≡ accept
+block-accepted x range b w c l = accepts (record { ready-set = block-set 1 x range; coefficients-length = l; ready-width = w })
 
 -- what an accepted call of forward leaves
-pub set-accepted : (x e : List ℤ) → T (accepted (forward-returned x e)) → (b : ℕ) → T (width b) → (c : List ℤ) → length c ≡ places
-    → round-returned (forward-elements x e) b c ≡ accept
-set-accepted x e h b w c l = accepts (record { ready-set = forward-set x e h; coefficients-length = l; ready-width = w })
+pub set-accepted : (x e : List ℤ) → T (accepted (forward-returned 2 x e)) → (b : ℕ) → T (width b) → (c : List ℤ) → length c ≡ places
+    → round-returned 2 (forward-elements 2 x e) b c ≡ accept
+set-accepted x e h b w c l = accepts (record { ready-set = forward-set 1 x e h; coefficients-length = l; ready-width = w })

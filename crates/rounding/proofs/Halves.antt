@@ -9,7 +9,7 @@ use native.Mathlib.Omega.{arith}
 use lib.IntN.{ℤ, pos, +ℤ-idr, *ℤ-zero}
 use lib.ListN.{length, List·getD-eq-default}
 use Rattle.ring.specs.Element.{component}
-use Rattle.cuts.specs.Width.{numerator}
+use Rattle.rounding_error.specs.Width.{numerator}
 use Rattle.rounding.specs.Preconditions.{HalfZero, Terms, all, odds, evens}
 use Rattle.rounding.proofs.Sizes.{partial, partial-more, partial-all}
 

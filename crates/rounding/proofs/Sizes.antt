@@ -11,12 +11,13 @@ use lib.Pow.{pow-mono, pow-pos}
 use mir.Syntax.{w32}
 use mir.Val.{SFits}
 use Rattle.integers.specs.Sum.{sum}
-use Rattle.integers.proofs.Division.{shrZ-small}
 use Rattle.integers.proofs.Magnitudes.{natAbs-add, natAbs-mul, small-fits}
+use Rattle.integers.proofs.Nearest.{nearest-small}
 use Rattle.ring.specs.Element.{component, magnitudes}
 use Rattle.ring.proofs.Magnitude.{sizes, sizes-le, component-le}
-use Rattle.dct.specs.Limits.{magnitudes-limit}
-use Rattle.cuts.specs.Width.{numerator, coefficient}
+use Rattle.limits.specs.Limits.{magnitudes-limit, halvings}
+use Rattle.rounding_error.specs.Width.{numerator, coefficient}
+use Rattle.rounding_error.proofs.Coefficient.{coefficient-rounded}
 use Rattle.rounding.specs.Preconditions.{Allowed}
 use Rattle.rounding.proofs.Tables.{number-small, width-small}
 
@@ -93,22 +94,18 @@ module _ {b : ℕ} {m u : List ℤ} (B : Sized b m u) where
   pub number-less : (k : ℕ) → k < 7 → natAbs (component m k) ≤ 2 ^ 27
   number-less k h = le-trans (B .number-bound k h) power-le
 
-  -- N + 2^b is at most 2^(b+1) times one more than the magnitudes
-  rounded-le : natAbs (numerator b m u +ℤ pos (2 ^ b)) ≤ 2 ^ (b + 1) * (magnitudes-limit + 1)
-  rounded-le =
-      let N = numerator b m u in
-      let n : natAbs N ≤ 2 ^ (b + 1) * sizes u 8 = rw (partial-all b m u) at (partial-le 7 (le-refl 7)) in
-      let s : 2 ^ (b + 1) * sizes u 8 ≤ 2 ^ (b + 1) * magnitudes-limit =
-      mul-le-mul-left (2 ^ (b + 1)) (le-trans (sizes-le 8 u) (B .magnitudes-bound)) in
-      let p : 2 ^ b ≤ 2 ^ (b + 1) = pow-mono (omega arith) in
-      omega (arith, natAbs-add N (pos (2 ^ b)))
+  numerator-le : natAbs (numerator b m u) ≤ 2 ^ (b + 1) * magnitudes-limit
+  numerator-le =
+      le-trans (rw (partial-all b m u) at (partial-le 7 (le-refl 7)))
+      (mul-le-mul-left (2 ^ (b + 1)) (le-trans (sizes-le 8 u) (B .magnitudes-bound)))
 
-  pub rounded-small : natAbs (numerator b m u +ℤ pos (2 ^ b)) ≤ 2 ^ 27 * (magnitudes-limit + 1)
-  rounded-small = le-trans rounded-le (mul-le-mul-right (magnitudes-limit + 1) power-le)
+  -- so the coefficient, as any number nearest to N/2^(b+1), is at most the limit
+  pub coefficient-small : natAbs (coefficient halvings b m u) ≤ magnitudes-limit
+  coefficient-small = nearest-small magnitudes-limit (pow-pos (b + halvings)) numerator-le (coefficient-rounded halvings b m u .nearest)
 
-  pub coefficient-small : natAbs (coefficient b m u) ≤ magnitudes-limit + 1
-  unfolding coefficient
-  coefficient-small = shrZ-small (2 ^ (b + 1)) (magnitudes-limit + 1) (numerator b m u +ℤ pos (2 ^ b)) (pow-pos (b + 1)) rounded-le
+  pub coefficient-fits : SFits w32 (coefficient halvings b m u)
+  coefficient-fits = small-fits w32 (coefficient halvings b m u) (lt-of-le-of-lt coefficient-small (lit< tt))
 
-  pub coefficient-fits : SFits w32 (coefficient b m u)
-  coefficient-fits = small-fits w32 (coefficient b m u) (lt-of-le-of-lt coefficient-small (lit< tt))
+  -- the sum that the code shifts
+  pub rounded-small : natAbs (numerator b m u +ℤ pos (2 ^ b)) ≤ largest + 2 ^ 26
+  rounded-small = omega (arith, natAbs-add (numerator b m u) (pos (2 ^ b)), rw (partial-all b m u) at (partial-small 7 (le-refl 7)), pow-mono (B .width-bound))

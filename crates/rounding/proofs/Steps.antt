@@ -10,22 +10,16 @@ use lib.IntN.{ℤ, pos, _+ℤ_, _*ℤ_, natAbs, +ℤ-idl}
 use lib.Pow.{pow-mono}
 use lib.Signed.{shrZ}
 use mir.Syntax.{w32, w64}
-use mir.Val.{SFits, ofZ, toZ}
-use mir.ValLaws.{toZ-ofZ}
+use mir.Val.{SFits, toZ}
 use mir.Facts.{sfits-widen}
 use Rattle.integers.proofs.Magnitudes.{small-fits}
-use Rattle.integers.proofs.Signed.{kept}
+use Rattle.integers.proofs.Signed.{in32, in64, kept, read-i32, read-i64}
 use Rattle.ring.specs.Element.{component}
-use Rattle.cuts.specs.Width.{numerator, coefficient}
+use Rattle.limits.specs.Limits.{halvings}
+use Rattle.rounding_error.specs.Width.{numerator, coefficient}
+use Rattle.rounding_error.proofs.Coefficient.{coefficient-shifted}
 use Rattle.rounding.proofs.Sizes.{largest, Sized, partial, partial-none, partial-more, partial-all}
 use Rattle.rounding.proofs.Sizes.{partial-small, term-small, number-less, component-small, rounded-small, coefficient-fits}
-
--- a number as it is read back from the bits of an i32 and of an i64
-abbrev in32 : ℤ → ℤ
-in32 z = toZ w32 (ofZ w32 z)
-
-abbrev in64 : ℤ → ℤ
-in64 z = toZ w64 (ofZ w64 z)
 
 -- s + x·y is v, and the product and the sum fit
 pub record ProductAdded (s x y v : ℤ) : Type 0 where
@@ -85,17 +79,17 @@ module _ {b : ℕ} {m u : List ℤ} (B : Sized b m u) where
     pub sum-fits : SFits w64 (in64 n +ℤ in64 p)
     sum-fits = rw sum-kept rounded-fits
 
-    shift-kept : in64 (shrZ (in64 (in64 n +ℤ in64 p)) (2 ^ (b + 1))) ≡ coefficient b m u
-    unfolding coefficient
+    shift-kept : in64 (shrZ (in64 (in64 n +ℤ in64 p)) (2 ^ (b + 1))) ≡ coefficient halvings b m u
     shift-kept =
-        rw (sum-kept, toZ-ofZ w64 (numerator b m u +ℤ pos (2 ^ b)) rounded-fits) (toZ-ofZ w64 (coefficient b m u) (sfits-widen tt (coefficient-fits B)))
+        rw (sum-kept, read-i64 (numerator b m u +ℤ pos (2 ^ b)) rounded-fits, ← coefficient-shifted b m u)
+        (read-i64 (coefficient halvings b m u) (sfits-widen tt (coefficient-fits B)))
 
     pub shift-fits : SFits w32 (in64 (shrZ (in64 (in64 n +ℤ in64 p)) (2 ^ (b + 1))))
     shift-fits = rw shift-kept (coefficient-fits B)
 
-    pub shift-read : in32 (in64 (shrZ (in64 (in64 n +ℤ in64 p)) (2 ^ (b + 1)))) ≡ coefficient b m u
-    shift-read = rw shift-kept (toZ-ofZ w32 (coefficient b m u) (coefficient-fits B))
+    pub shift-read : in32 (in64 (shrZ (in64 (in64 n +ℤ in64 p)) (2 ^ (b + 1)))) ≡ coefficient halvings b m u
+    shift-read = rw shift-kept (read-i32 (coefficient halvings b m u) (coefficient-fits B))
 
   -- the coefficient r of a call, as it is stored
-  pub coefficient-kept : {r : ℤ} → r ≡ coefficient b m u → in32 r ≡ coefficient b m u
-  coefficient-kept e = rw e (toZ-ofZ w32 (coefficient b m u) (coefficient-fits B))
+  pub coefficient-kept : {r : ℤ} → r ≡ coefficient halvings b m u → in32 r ≡ coefficient halvings b m u
+  coefficient-kept e = rw e (read-i32 (coefficient halvings b m u) (coefficient-fits B))

@@ -11,10 +11,10 @@ use mir.Facts.{or-yes, eqb-yes}
 use Rattle.integers.specs.Test.{every}
 use Rattle.integers.proofs.Tests.{every-at}
 use Rattle.ring.specs.Element.{component}
-use Rattle.cuts.specs.Root.{root}
-use Rattle.cuts.specs.Width.{table-number, TableAt}
-use Rattle.cuts.proofs.Tables.{number-small as small}
-use Rattle.rounding.specs.Tables.{width, numbers}
+use Rattle.rounding_error.specs.Root.{root}
+use Rattle.rounding_error.specs.Width.{table-number, TableAt}
+use Rattle.rounding_error.proofs.Tables.{number-small as small}
+use Rattle.rounding.specs.Tables.{width, table-numbers}
 
 -- what holds at the three widths holds at each width
 pub by-width : (P : ℕ → Type 0) → P 11 → P 20 → P 26 → (b : ℕ) → T (width b) → P b
@@ -29,19 +29,19 @@ third = by-width (λ b. (b ≡ 11 → ⊥) → (b ≡ 20 → ⊥) → b ≡ 26) 
 
 -- m_(k+1) at b obeys the rule
 right : ℕ → ℕ → Bool
-right b k = table-number b (suc k) (component (numbers b) k)
+right b k = table-number b (suc k) (component (table-numbers b) k)
 
 all-right : (b : ℕ) → T (width b) → T (every 7 (right b))
-unfolding right table-number numbers root
+unfolding right table-number table-numbers root
 all-right = by-width (λ b. T (every 7 (right b))) tt tt tt
 
-pub tables : (b : ℕ) → T (width b) → TableAt b (numbers b)
+pub tables : (b : ℕ) → T (width b) → TableAt b (table-numbers b)
 unfolding right
 tables b w = record { numbers = λ k h. every-at 7 (right b) (all-right b w) k h }
 
 -- so it is at most 2^(b+1)
-pub number-small : (b : ℕ) → T (width b) → (k : ℕ) → k < 7 → natAbs (component (numbers b) k) ≤ 2 ^ (b + 1)
-number-small b w k h = small b (suc k) (zero-lt-suc k) h (component (numbers b) k) (tables b w .numbers k h)
+pub number-small : (b : ℕ) → T (width b) → (k : ℕ) → k < 7 → natAbs (component (table-numbers b) k) ≤ 2 ^ (b + 1)
+number-small b w k h = small b (suc k) (zero-lt-suc k) h (component (table-numbers b) k) (tables b w .numbers k h)
 
 pub width-small : (b : ℕ) → T (width b) → b ≤ 26
 width-small = by-width (λ b. b ≤ 26) (lit≤ tt) (lit≤ tt) (lit≤ tt)

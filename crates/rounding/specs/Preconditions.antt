@@ -6,14 +6,14 @@ use lib.Dec.{T}
 use lib.IntN.{ℤ, pos}
 use lib.ListN.{length}
 use Rattle.ring.specs.Element.{component, magnitudes}
-use Rattle.dct.specs.Limits.{places, magnitudes-limit}
-use Rattle.accepted_sets.specs.Sets.{AcceptedSet}
-use Rattle.rounding.specs.Tables.{width, numbers}
+use Rattle.limits.specs.Limits.{places, magnitudes-limit}
+use Rattle.element_sets.specs.Sets.{AcceptedSet}
+use Rattle.rounding.specs.Tables.{width, table-numbers}
 
 -- for a coefficient of u at b: m are the table numbers of a width, and u is within the limit
 pub record Allowed (b : ℕ) (m u : List ℤ) : Type 0 where
   pub at-width : T (width b)
-  pub are-numbers : m ≡ numbers b
+  pub are-numbers : m ≡ table-numbers b
   pub in-limit : magnitudes u ≤ magnitudes-limit
 
 -- the components of u besides u_0 whose indices have the remainder h by 2 are 0
@@ -28,6 +28,6 @@ pub data Terms (u : List ℤ) : ℕ → ℕ → Type 0 where
 
 -- for all 64: the elements are an accepted set, there is room for 64 coefficients, and b is a width
 pub record Ready (elements : List ℤ) (b : ℕ) (coefficients : List ℤ) : Type 0 where
-  pub ready-set : AcceptedSet elements
+  pub ready-set : AcceptedSet places magnitudes-limit elements
   pub coefficients-length : length coefficients ≡ places
   pub ready-width : T (width b)

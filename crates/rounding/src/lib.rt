@@ -13,17 +13,19 @@ ghost use lib.Dec.{T};
 ghost use lib.IntN.{pos, _+ℤ_, _*ℤ_};
 ghost use mir.Syntax.{w64};
 ghost use mir.Val.{SFits};
-ghost use Rattle.cuts.specs.Width as cuts;
+ghost use Rattle.limits.specs.Limits.{halvings};
+ghost use Rattle.rounding_error.specs.Width as widths;
 ghost use Rattle.answers.specs.Answer.{returned, accepted};
 ghost use Rattle.rounding.specs.Preconditions.{Allowed, HalfZero, Ready, Terms};
 ghost use Rattle.rounding.specs.Rounding.{AllNear, coefficients-of, round-coefficients, round-returned};
 ghost use Rattle.rounding.specs.Tables as tables;
-use accepted_sets::first_above_limit;
 use answers::Answer;
-use elements::COMPONENTS;
+use element_sets::first_above;
 use elements::Element;
-use elements::PLACES;
 use elements::element_at;
+use limits::COMPONENTS;
+use limits::MAGNITUDES_LIMIT;
+use limits::PLACES;
 
 // The table numbers m_1 to m_7 at each width.
 const NUMBERS_11: [i64; 7] = [4017, 3784, 3406, 2896, 2276, 1567, 799];
@@ -43,7 +45,7 @@ const NUMBERS_26: [i64; 7] = [
 // The table numbers at the width b.
 fn numbers_at(b: u32) -> [i64; 7]
     requires { ⌜ T (tables.width b) ⌝ }
-    ensures { λ r. ⌜ r ≡ tables.numbers b ⌝ }
+    ensures { λ r. ⌜ r ≡ tables.table-numbers b ⌝ }
 {
     if b == 11 {
         return NUMBERS_11;
@@ -104,7 +106,7 @@ fn half_used(u: Element, h: usize) -> bool
 fn sum_of_terms(u: Element, b: u32, numbers: [i64; 7], first: usize, step: usize) -> i64
     requires { ⌜ Allowed b numbers (u .components) ⌝ }
     requires { ⌜ Terms (u .components) first step ⌝ }
-    ensures { λ r. ⌜ r ≡ cuts.numerator b numbers (u .components) ⌝ }
+    ensures { λ r. ⌜ r ≡ widths.numerator b numbers (u .components) ⌝ }
 {
     let a = u.components;
     let mut n = plus_product(0, power_of_two(b), a[0]);
@@ -120,7 +122,7 @@ fn sum_of_terms(u: Element, b: u32, numbers: [i64; 7], first: usize, step: usize
 // saves its products.
 fn numerator(u: Element, b: u32, numbers: [i64; 7]) -> i64
     requires { ⌜ Allowed b numbers (u .components) ⌝ }
-    ensures { λ r. ⌜ r ≡ cuts.numerator b numbers (u .components) ⌝ }
+    ensures { λ r. ⌜ r ≡ widths.numerator b numbers (u .components) ⌝ }
 {
     if !half_used(u, 0) {
         return sum_of_terms(u, b, numbers, 0, 2);
@@ -134,7 +136,7 @@ fn numerator(u: Element, b: u32, numbers: [i64; 7]) -> i64
 // (N + 2^b) divided by 2^(b+1), rounded down: `>>` on an i64 rounds down.
 fn coefficient(u: Element, b: u32, numbers: [i64; 7]) -> i32
     requires { ⌜ Allowed b numbers (u .components) ⌝ }
-    ensures { λ r. ⌜ r ≡ cuts.coefficient b numbers (u .components) ⌝ }
+    ensures { λ r. ⌜ r ≡ widths.coefficient halvings b numbers (u .components) ⌝ }
 {
     let n = numerator(u, b, numbers);
     let half = power_of_two(b);
@@ -145,7 +147,7 @@ fn coefficient(u: Element, b: u32, numbers: [i64; 7]) -> i32
 // Every coefficient of an accepted set.
 pub fn fill(elements: &[i32], b: u32, coefficients: &mut [i32])
     requires { ⌜ Ready (now elements) b (now coefficients) ⌝ }
-    ensures { λ r. ⌜ now (coefficients .exit) ≡ coefficients-of b (now (elements .entry)) ⌝ }
+    ensures { λ r. ⌜ now (coefficients .exit) ≡ coefficients-of 2 b (now (elements .entry)) ⌝ }
 {
     let numbers = numbers_at(b);
     let mut i = 0;
@@ -159,9 +161,9 @@ pub fn fill(elements: &[i32], b: u32, coefficients: &mut [i32])
 
 // The coefficients of 64 elements at the width b, or why they are refused.
 pub fn round(elements: &[i32], b: u32, coefficients: &mut [i32]) -> Answer
-    ensures { λ r. ⌜ returned r ≡ round-returned (now (elements .entry)) b (now (coefficients .entry)) ⌝ }
-    ensures { λ r. ⌜ now (coefficients .exit) ≡ round-coefficients (now (elements .entry)) b (now (coefficients .entry)) ⌝ }
-    ensures { λ r. ⌜ (T (accepted (returned r)) → AllNear (now (elements .entry)) b (now (coefficients .exit))) ⌝ }
+    ensures { λ r. ⌜ returned r ≡ round-returned 2 (now (elements .entry)) b (now (coefficients .entry)) ⌝ }
+    ensures { λ r. ⌜ now (coefficients .exit) ≡ round-coefficients 2 (now (elements .entry)) b (now (coefficients .entry)) ⌝ }
+    ensures { λ r. ⌜ (T (accepted (returned r)) → AllNear 2 (now (elements .entry)) b (now (coefficients .exit))) ⌝ }
 {
     if elements.len() != COMPONENTS {
         return Answer::Lengths;
@@ -172,7 +174,7 @@ pub fn round(elements: &[i32], b: u32, coefficients: &mut [i32]) -> Answer
     if !is_width(b) {
         return Answer::Width;
     }
-    let p = first_above_limit(elements);
+    let p = first_above(elements, PLACES, MAGNITUDES_LIMIT);
     if p < PLACES {
         return Answer::Magnitudes(p);
     }

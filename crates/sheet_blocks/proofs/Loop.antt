@@ -7,8 +7,8 @@ use native.Mathlib.Nat.{not-suc-le-zero}
 use native.Mathlib.Omega.{arith}
 use lib.IntN.{ℤ}
 use lib.ListN.{length}
-use Rattle.dct.specs.Limits.{components-size}
-use Rattle.transform.specs.Forward.{elements-of}
+use Rattle.limits.specs.Limits.{components-size}
+use Rattle.element_sets.specs.Sets.{elements-of}
 use Rattle.sheet_checks.specs.Check.{blocks}
 use Rattle.sheet_blocks.specs.Preconditions.{Advanced, Checked}
 use Rattle.sheet_blocks.specs.Blocks.{block}
@@ -18,7 +18,7 @@ pub record Reached (words : List ℕ) (b : ℕ) (output₀ : List ℕ) (k : ℕ)
   pub done : k ≤ blocks words
   pub scratch-kept : length scratch ≡ components-size
   pub output-kept : length output ≡ length output₀
-  pub last-block : 0 < k → scratch ≡ elements-of (block words (k - 1))
+  pub last-block : 0 < k → scratch ≡ elements-of 2 (block words (k - 1))
   pub so-far : Advanced b words 0 k output₀ output
 
 module _ {words : List ℕ} {b : ℕ} {output₀ : List ℕ} where
@@ -26,7 +26,7 @@ module _ {words : List ℕ} {b : ℕ} {output₀ : List ℕ} where
   reached-none e = record { done = zero-le; scratch-kept = e; output-kept = refl; last-block = λ h. absurd (not-suc-le-zero h); so-far = record { over-any = λ l was. was } }
 
   pub reached-more : {k : ℕ} {scratch made : List ℤ} {output left : List ℕ} → Reached words b output₀ k scratch output → k < blocks words
-      → length made ≡ length scratch → length left ≡ length output → made ≡ elements-of (block words k)
+      → length made ≡ length scratch → length left ≡ length output → made ≡ elements-of 2 (block words k)
       → Advanced b words k (k + 1) output left → Reached words b output₀ (k + 1) made left
   reached-more {k} R h s o e A =
       let same : k + 1 - 1 ≡ k = omega arith in
@@ -44,9 +44,7 @@ module _ {words : List ℕ} {b : ℕ} {output₀ : List ℕ} where
   checked-on C R =
       record {
         at-width = C .at-width;
-        words-length = C .words-length;
-        some-block = C .some-block;
-        samples-in-range = C .samples-in-range;
+        right = C .right;
         scratch-size = R .scratch-kept;
         output-size = rw (R .output-kept) (C .output-size);
       }

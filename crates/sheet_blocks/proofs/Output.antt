@@ -10,7 +10,7 @@ use borrow.Author.Tests.{eq-eqb, ne-eqb}
 use Rattle.integers.specs.Table.{table, over}
 use Rattle.integers.proofs.Tables.{length-table, table-ext}
 use Rattle.integers.proofs.Overwriting.{table-append, over-none, over-more, over-lent}
-use Rattle.dct.specs.Limits.{places}
+use Rattle.limits.specs.Limits.{places}
 use Rattle.words.specs.Word.{coefficient-head-kind, payload, word}
 use Rattle.sheet_checks.specs.Check.{word-at, size-of}
 use Rattle.sheet_blocks.specs.Preconditions.{after-blocks}

@@ -1,42 +1,70 @@
--- The samples of a sheet that was checked are in range, and the coefficients of its blocks are such as words can hold.
+-- Where the blocks of a sheet stand; that the samples of a sheet that was checked are in range, and that the coefficients of its blocks are such as
+-- words can hold.
 -- Assumes nothing.
-use mathlib.Core.Path.{_≡_}
+use mathlib.Core.Path.{_≡_, sym, ap, _∙_}
 use mathlib.Core.List.{List}
-use Prim.Native.Nat.{ℕ, _+_, _*_, _<_}
-use native.Mathlib.Nat.{lt-of-le-of-lt}
+use Prim.Native.Nat.{ℕ, zero, suc, _+_, _*_, _/_, _%_, _<_}
+use native.Mathlib.Nat.{lt-of-le-of-lt, not-suc-le-zero, zero-lt-suc, zero-mul, mul-comm, mul-le-mul-left, div-lt-iff-lt-mul, div-add-mod, mod-lt}
 use native.Mathlib.Omega.{arith}
+use lib.Arith.{digits-div, digits-mod}
 use lib.Dec.{T, lit<}
 use lib.IntN.{ℤ, pos}
 use lib.ListN.{length}
 use Rattle.integers.proofs.Tables.{getD-table, length-table}
-use Rattle.dct.specs.Limits.{places}
-use Rattle.transform.specs.Forward.{AllInRange, elements-of}
-use Rattle.accepted_sets.proofs.BlockSets.{block-set}
+use Rattle.limits.specs.Limits.{places}
+use Rattle.element_sets.specs.Sets.{AllInRange, elements-of}
+use Rattle.element_sets.proofs.Blocks.{block-set}
 use Rattle.rounding.specs.Preconditions.{Ready}
 use Rattle.rounding.specs.Tables.{width}
 use Rattle.rounding.proofs.Blocks.{coefficient-size}
-use Rattle.words.specs.Word.{payload, value}
+use Rattle.words.specs.Word.{across, down, payload, value}
 use Rattle.sheet_checks.specs.Check.{word-at, blocks}
+use Rattle.sheet_checks.proofs.Sheets.{samples-in-range}
 use Rattle.sheet_blocks.specs.Preconditions.{Checked, Fit}
-use Rattle.sheet_blocks.specs.Blocks.{block, block-coefficients}
+use Rattle.sheet_blocks.specs.Blocks.{block-number, block, block-coefficients}
+
+factor-positive : (a d : ℕ) {k : ℕ} → k < a * d → 0 < a
+factor-positive zero d h = absurd (not-suc-le-zero (rw (zero-mul d) at h))
+factor-positive (suc a) d h = zero-lt-suc a
+
+-- "Blocks go left to right, then down": in row i of blocks, from the top, and column j, from the left, stands one of the blocks; each block stands in
+-- one row and one column
+module _ (words : List ℕ) where
+  pub block-place : (i j : ℕ) → i < down (word-at words 0) → j < across (word-at words 0) → block-number words i j < blocks words
+  block-place i j h l = omega (arith, mul-le-mul-left (across (word-at words 0)) h)
+
+  pub block-row : (k : ℕ) → k < blocks words
+      → (k / across (word-at words 0) < down (word-at words 0)) × (k % across (word-at words 0) < across (word-at words 0))
+      × (block-number words (k / across (word-at words 0)) (k % across (word-at words 0)) ≡ k)
+  block-row k h =
+      let a = across (word-at words 0) in
+      let d = down (word-at words 0) in
+      let some = factor-positive a d h in
+      (div-lt-iff-lt-mul some .1 (rw (mul-comm d a) h), mod-lt k some, div-add-mod k a)
+
+  pub only-place : (i j m n : ℕ) → j < across (word-at words 0) → n < across (word-at words 0) → block-number words i j ≡ block-number words m n → (i ≡ m) × (j ≡ n)
+  only-place i j m n h l e =
+      let a = across (word-at words 0) in
+      let same : i * a + j ≡ m * a + n = rw (mul-comm i a, mul-comm m a) e in
+      (sym (digits-div i h) ∙ ap (λ (k : ℕ). k / a) same ∙ digits-div m l, sym (digits-mod i h) ∙ ap (λ (k : ℕ). k % a) same ∙ digits-mod m l)
 
 module _ {words : List ℕ} {b s o : ℕ} (C : Checked words b s o) (k : ℕ) (h : k < blocks words) where
   -- the words of block k
   pub block-words : 1 + places * k + places < length words
-  block-words = rw (C .words-length) (omega arith)
+  block-words = rw (C .right .right-shape .count) (omega arith)
 
-  pub block-range : AllInRange (block words k)
+  pub block-range : AllInRange 2 (block words k)
   unfolding block
   block-range =
       record {
         at = λ i l. rw (getD-table places (λ i. value (payload (word-at words (1 + places * k + i)))) (pos 0) i l)
-            (C .samples-in-range (1 + places * k + i) (omega arith) (omega (arith, block-words)));
+            (samples-in-range (C .right) (1 + places * k + i) (omega arith) (omega (arith, block-words)));
       }
 
   pub block-fit : Fit (block-coefficients b words k)
   unfolding block-coefficients
   block-fit =
-      record { small = λ i l. lt-of-le-of-lt (coefficient-size b (block-set (block words k) block-range) (C .at-width) i l) (lit< tt) }
+      record { small = λ i l. lt-of-le-of-lt (coefficient-size b (block-set 1 (block words k) block-range) (C .at-width) i l) (lit< tt) }
 
 -- what the cores of forward and of rounding ask of a block whose samples are in range
 
@@ -44,5 +72,5 @@ pub block-length : (words : List ℕ) (k : ℕ) → length (block words k) ≡ p
 unfolding block
 block-length words k = length-table places (λ i. value (payload (word-at words (1 + places * k + i))))
 
-pub block-ready : {x e c : List ℤ} {b : ℕ} → AllInRange x → e ≡ elements-of x → length c ≡ places → T (width b) → Ready e b c
-block-ready {x} range same l w = record { ready-set = rw same (block-set x range); coefficients-length = l; ready-width = w }
+pub block-ready : {x e c : List ℤ} {b : ℕ} → AllInRange 2 x → e ≡ elements-of 2 x → length c ≡ places → T (width b) → Ready e b c
+block-ready {x} range same l w = record { ready-set = rw same (block-set 1 x range); coefficients-length = l; ready-width = w }

@@ -6,11 +6,15 @@ use lib.Dec.{eqb}
 use lib.IntN.{ℤ, pos}
 use lib.ListN.{length, getD}
 use Rattle.integers.specs.Table.{table}
-use Rattle.dct.specs.Limits.{places}
-use Rattle.transform.specs.Forward.{elements-of}
+use Rattle.limits.specs.Limits.{places}
+use Rattle.element_sets.specs.Sets.{elements-of}
 use Rattle.rounding.specs.Rounding.{coefficients-of}
-use Rattle.words.specs.Word.{coefficient-head-kind, coefficient-kind, payload, payload-of, value, word}
+use Rattle.words.specs.Word.{across, coefficient-head-kind, coefficient-kind, payload, payload-of, value, word}
 use Rattle.sheet_checks.specs.Check.{word-at}
+
+-- "Blocks go left to right, then down": the number of the block in row i of blocks, from the top, and column j, from the left
+abbrev pub block-number : List ℕ → ℕ → ℕ → ℕ
+block-number words i j = across (word-at words 0) * i + j
 
 -- the samples of block k: "64 words each, row by row", after the head
 unfoldable pub block : List ℕ → ℕ → List ℤ
@@ -18,7 +22,7 @@ block words k = table places (λ i. value (payload (word-at words (1 + places * 
 
 -- "the rounding at b of that block's exact elements"
 unfoldable pub block-coefficients : ℕ → List ℕ → ℕ → List ℤ
-block-coefficients b words k = coefficients-of b (elements-of (block words k))
+block-coefficients b words k = coefficients-of 2 b (elements-of 2 (block words k))
 
 -- the word of coefficient i
 abbrev pub coefficient-word : List ℤ → ℕ → ℕ

@@ -1,24 +1,22 @@
 -- What the functions ask, which is that the causes of refusal of the sheet job were ruled out, and what the loop over blocks leaves.
 use mathlib.Core.Path.{_≡_}
-use mathlib.Core.Bool.{true}
 use mathlib.Core.List.{List}
-use Prim.Native.Nat.{ℕ, suc, _+_, _*_, _≤_, _<_}
+use Prim.Native.Nat.{ℕ, _+_, _*_, _≤_, _<_}
 use lib.Dec.{T}
 use lib.IntN.{ℤ, pos, natAbs}
 use lib.ListN.{length, getD}
 use Rattle.integers.specs.Table.{table, over}
-use Rattle.dct.specs.Limits.{places, components-size, in-range}
+use Rattle.limits.specs.Limits.{places, components-size}
 use Rattle.rounding.specs.Tables.{width}
-use Rattle.words.specs.Word.{payload, value, value-limit}
-use Rattle.sheet_checks.specs.Check.{word-at, blocks, size-of}
+use Rattle.words.specs.Word.{value-limit}
+use Rattle.sheet_checks.specs.Check.{sample-format}
+use Rattle.sheet_checks.specs.Sheets.{RightSheet}
 use Rattle.sheet_blocks.specs.Blocks.{output-word}
 
 -- every cause was looked for, and there is none
 pub record Checked (words : List ℕ) (b scratch-length output-length : ℕ) : Type 0 where
   pub at-width : T (width b)
-  pub words-length : length words ≡ size-of (blocks words)
-  pub some-block : 0 < blocks words
-  pub samples-in-range : (i : ℕ) → 0 < i → suc i < length words → in-range (value (payload (word-at words i))) ≡ true
+  pub right : RightSheet sample-format words
   pub scratch-size : scratch-length ≡ components-size
   pub output-size : length words ≤ output-length
 

@@ -7,13 +7,13 @@ ghost use Prim.Native.Nat.{_*_, _+_, _-_, _<_, _≤_};
 ghost use lib.Dec.{T};
 ghost use lib.ListN.{length};
 ghost use Rattle.integers.specs.Table.{over, table};
-ghost use Rattle.dct.specs.Limits.{components-size, places};
-ghost use Rattle.transform.specs.Forward.{AllInRange, elements-of};
+ghost use Rattle.limits.specs.Limits.{components-size, places};
+ghost use Rattle.element_sets.specs.Sets.{AllInRange, elements-of};
 ghost use Rattle.rounding.specs.Tables.{width};
 ghost use Rattle.sheet_checks.specs.Check.{blocks};
 ghost use Rattle.sheet_blocks.specs.Blocks as sheet;
 ghost use Rattle.sheet_blocks.specs.Preconditions.{Advanced, Checked, Fit};
-use elements::PLACES;
+use limits::PLACES;
 use rounding::fill;
 use transform::transform;
 use words::COEFFICIENT;
@@ -29,7 +29,7 @@ struct Progress {
 }
 
 // The samples of block k.
-fn block(words: &[u32], k: usize) -> [i32; 64]
+fn block(words: &[u32], k: usize) -> [i32; PLACES]
     requires { ⌜ 1 + places * k + places ≤ length (now words) ⌝ }
     ensures { λ r. ⌜ r ≡ sheet.block (now (words .entry)) k ⌝ }
 {
@@ -44,7 +44,7 @@ fn block(words: &[u32], k: usize) -> [i32; 64]
 }
 
 // The words of a block's coefficients, at the start of a part of the output.
-fn store(coefficients: [i32; 64], output: &mut [u32])
+fn store(coefficients: [i32; PLACES], output: &mut [u32])
     requires { ⌜ Fit coefficients ⌝ }
     requires { ⌜ places ≤ length (now output) ⌝ }
     ensures { λ r. ⌜ now (output .exit) ≡ over (table places (sheet.coefficient-word coefficients)) (now (output .entry)) ⌝ }
@@ -57,13 +57,13 @@ fn store(coefficients: [i32; 64], output: &mut [u32])
 }
 
 // The coefficients of block k; its elements stay in the scratch.
-fn coefficients(words: &[u32], k: usize, b: u32, scratch: &mut [i32]) -> [i32; 64]
+fn coefficients(words: &[u32], k: usize, b: u32, scratch: &mut [i32]) -> [i32; PLACES]
     requires { ⌜ T (width b) ⌝ }
     requires { ⌜ 1 + places * k + places ≤ length (now words) ⌝ }
-    requires { ⌜ AllInRange (sheet.block (now words) k) ⌝ }
+    requires { ⌜ AllInRange 2 (sheet.block (now words) k) ⌝ }
     requires { ⌜ length (now scratch) ≡ components-size ⌝ }
     ensures { λ r. ⌜ r ≡ sheet.block-coefficients b (now (words .entry)) k ⌝ }
-    ensures { λ r. ⌜ now (scratch .exit) ≡ elements-of (sheet.block (now (words .entry)) k) ⌝ }
+    ensures { λ r. ⌜ now (scratch .exit) ≡ elements-of 2 (sheet.block (now (words .entry)) k) ⌝ }
 {
     transform(&block(words, k), scratch);
     let mut coefficients = [0i32; PLACES];
@@ -82,7 +82,7 @@ fn next_block(
     requires { ⌜ Checked (now words) b (length (now scratch)) (length (now output)) ⌝ }
     requires { ⌜ state .blocks < blocks (now words) ⌝ }
     ensures { λ r. ⌜ r .blocks ≡ state .blocks + 1 ⌝ }
-    ensures { λ r. ⌜ now (scratch .exit) ≡ elements-of (sheet.block (now (words .entry)) (state .blocks)) ⌝ }
+    ensures { λ r. ⌜ now (scratch .exit) ≡ elements-of 2 (sheet.block (now (words .entry)) (state .blocks)) ⌝ }
     ensures { λ r. ⌜ Advanced b (now (words .entry)) (state .blocks) (state .blocks + 1) (now (output .entry)) (now (output .exit)) ⌝ }
 {
     let k = state.blocks;
@@ -94,7 +94,7 @@ fn next_block(
 // Every block, one after the other.
 fn all_blocks(words: &[u32], b: u32, scratch: &mut [i32], output: &mut [u32])
     requires { ⌜ Checked (now words) b (length (now scratch)) (length (now output)) ⌝ }
-    ensures { λ r. ⌜ now (scratch .exit) ≡ elements-of (sheet.block (now (words .entry)) (blocks (now (words .entry)) - 1)) ⌝ }
+    ensures { λ r. ⌜ now (scratch .exit) ≡ elements-of 2 (sheet.block (now (words .entry)) (blocks (now (words .entry)) - 1)) ⌝ }
     ensures { λ r. ⌜ Advanced b (now (words .entry)) 0 (blocks (now (words .entry))) (now (output .entry)) (now (output .exit)) ⌝ }
 {
     // Head and end word are fewer than a block, so that what is left of the division is theirs.
@@ -108,7 +108,7 @@ fn all_blocks(words: &[u32], b: u32, scratch: &mut [i32], output: &mut [u32])
 // The coefficient sheet of a sample sheet in which everything was found right.
 pub fn convert(words: &[u32], b: u32, scratch: &mut [i32], output: &mut [u32])
     requires { ⌜ Checked (now words) b (length (now scratch)) (length (now output)) ⌝ }
-    ensures { λ r. ⌜ now (scratch .exit) ≡ elements-of (sheet.block (now (words .entry)) (blocks (now (words .entry)) - 1)) ⌝ }
+    ensures { λ r. ⌜ now (scratch .exit) ≡ elements-of 2 (sheet.block (now (words .entry)) (blocks (now (words .entry)) - 1)) ⌝ }
     ensures { λ r. ⌜ now (output .exit) ≡ over (sheet.coefficient-sheet b (now (words .entry))) (now (output .entry)) ⌝ }
 {
     output[0] = with_payload(COEFFICIENT_HEAD, payload(words[0]));

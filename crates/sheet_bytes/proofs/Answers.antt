@@ -12,9 +12,9 @@ use Rattle.integers.specs.Table.{over}
 use Rattle.integers.proofs.Overwriting.{length-over, take-over}
 use Rattle.integers.proofs.Tables.{length-table}
 use Rattle.integers.proofs.Tests.{holds}
-use Rattle.dct.specs.Limits.{components-size}
+use Rattle.limits.specs.Limits.{components-size}
 use Rattle.answers.specs.Answer.{Returned, accepted}
-use Rattle.answers.proofs.Accepted.{accepted-written}
+use Rattle.answers.proofs.Causes.{accepted-leaves}
 use Rattle.sheet_checks.specs.Check.{word-at}
 use Rattle.sheet_blocks.specs.Blocks.{output-word, coefficient-sheet}
 use Rattle.sheets.specs.Sheet.{sheet-returned, sheet-output}
@@ -62,7 +62,7 @@ module _ (words : List ℕ) (r : Returned) (e : r ≡ sheet-returned words progr
       let size : length sheet ≡ length words = length-table (length words) (output-word program-width words) in
       let place : p ≡ length words = g ∙ ap (λ r. r .place) (e ∙ returns) in
       let answer = sheet-returned words program-width (length scratch) (length made) in
-      let over-made : left ≡ over sheet made = l ∙ accepted-written answer (over sheet made) made (rw e at t) in
+      let over-made : left ≡ over sheet made = l ∙ accepted-leaves answer (over sheet made) made (rw e at t) in
       let start : take p left ≡ sheet = rw (place, over-made) (take-over sheet made (length words) size) in
       record {
         room = omega (arith, checked .output-size);

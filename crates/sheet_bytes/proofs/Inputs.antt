@@ -14,6 +14,10 @@ use Rattle.integers.proofs.Overwriting.{take-over}
 use Rattle.integers.proofs.Tables.{length-table}
 use Rattle.sheet_bytes.specs.Program.{input-limit, word-from, words-of, refusal-line, bytes-for, output-bytes}
 
+-- "at most 32,780 bytes"
+pub input-figure : input-limit ≡ 32780
+input-figure = refl
+
 -- the whole words of some bytes are one for each four
 length-words : (bytes : List ℕ) → length (words-of bytes) ≡ length bytes / 4
 unfolding words-of

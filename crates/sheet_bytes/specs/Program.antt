@@ -7,19 +7,15 @@ use lib.ListN.{length, getD}
 use Rattle.io.specs.Digits.{digits}
 use Rattle.integers.specs.Search.{first}
 use Rattle.integers.specs.Table.{table}
-use Rattle.dct.specs.Limits.{components-size}
+use Rattle.limits.specs.Limits.{blocks-limit, components-size}
 use Rattle.answers.specs.Answer.{Returned, accepted}
-use Rattle.sheet_checks.specs.Check.{word-at, blocks-limit, size-of}
+use Rattle.sheet_checks.specs.Check.{word-at, size-of}
 use Rattle.sheet_blocks.specs.Blocks.{coefficient-sheet}
 use Rattle.sheets.specs.Sheet.{sheet-returned}
 
--- "The program works at width 26, reads at most 32,780 bytes of standard input"
-
+-- "The program works at width 26"
 abbrev pub program-width : ℕ
 program-width = 26
-
-abbrev pub input-limit : ℕ
-input-limit = 32780
 
 -- the words of the largest sheet
 abbrev pub words-limit : ℕ
@@ -28,6 +24,10 @@ words-limit = size-of blocks-limit
 -- and its bytes, which are the most that the program writes
 abbrev pub output-limit : ℕ
 output-limit = 4 * words-limit
+
+-- it "reads at most 32,780 bytes of standard input", a word more, by which a longer input shows
+abbrev pub input-limit : ℕ
+input-limit = output-limit + 4
 
 -- "(most significant byte first)"
 

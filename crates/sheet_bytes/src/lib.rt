@@ -7,14 +7,16 @@ ghost use Prim.Native.Nat.{_+_, _*_, _/_, _≤_, _<_, min};
 ghost use lib.ListN.{length, take};
 ghost use Rattle.io.specs.Counts.{Counts};
 ghost use Rattle.integers.specs.Table.{over};
+ghost use Rattle.answers.specs.Answer.{returned};
 ghost use Rattle.sheet_bytes.specs.Parts.{Appended};
 ghost use Rattle.sheet_bytes.specs.Program as program;
 ghost use Rattle.sheet_bytes.specs.Program.{input-limit, output-bytes, output-limit};
+use answers::Answer;
 use answers::number;
 use answers::place;
-use elements::COMPONENTS;
-use elements::PLACES;
-use sheet_checks::BLOCKS_LIMIT;
+use limits::BLOCKS_LIMIT;
+use limits::COMPONENTS;
+use limits::PLACES;
 use sheets::sheet;
 
 // The width that the program works at.
@@ -26,7 +28,7 @@ const WORDS_LIMIT: usize = 2 + PLACES * BLOCKS_LIMIT;
 pub const OUTPUT_LIMIT: usize = 4 * WORDS_LIMIT;
 
 // The bytes that it reads at most: one word more than the largest sheet has.
-pub const INPUT_LIMIT: usize = 32780;
+pub const INPUT_LIMIT: usize = OUTPUT_LIMIT + 4;
 
 // The word of four bytes, of which a is the most significant.
 fn word_of(a: u8, b: u8, c: u8, d: u8) -> u32
@@ -125,6 +127,17 @@ fn line(number: u64, place: u64, output: &mut [u8]) -> usize
     put(b"\n", output, at)
 }
 
+// The line of the refusal that an answer is.
+fn refusal(a: Answer, output: &mut [u8]) -> usize
+    requires { ⌜ 53 ≤ length (now output) ⌝ }
+    ensures { λ r. ⌜ r ≡ length (program.refusal-line (returned a)) ⌝ }
+    ensures { λ r. ⌜ now (output .exit) ≡ over (program.refusal-line (returned a)) (now (output .entry)) ⌝ }
+{
+    let n = number(a);
+    let p = place(a);
+    line(n as u64, p as u64, output)
+}
+
 // The smaller of two lengths.
 fn least(a: usize, b: usize) -> usize
     ensures { λ r. ⌜ r ≡ min a b ⌝ }
@@ -141,12 +154,11 @@ fn answer_words(words: &[u32], output: &mut [u8]) -> usize
     let mut scratch = [0i32; COMPONENTS];
     let mut made = [0u32; WORDS_LIMIT];
     let answer = sheet(words, WIDTH, &mut scratch, &mut made);
-    let n = number(answer);
-    let p = place(answer);
-    if n != 0 {
-        return line(n as u64, p as u64, output);
+    if number(answer) != 0 {
+        return refusal(answer, output);
     }
-    store(&made[..p], output)
+    let n = place(answer);
+    store(&made[..n], output)
 }
 
 // The bytes that the program writes for `input`, at the start of `output`, and how many there are.
@@ -158,7 +170,7 @@ pub fn convert(input: &[u8], output: &mut [u8; OUTPUT_LIMIT]) -> usize
     let read = least(input.len(), INPUT_LIMIT);
     let count = read / 4;
     if read % 4 != 0 {
-        return line(7, count as u64, output);
+        return refusal(Answer::Words(count), output);
     }
     let mut words = [0u32; INPUT_LIMIT / 4];
     load(&input[..read], &mut words);

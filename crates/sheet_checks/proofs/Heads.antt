@@ -10,8 +10,9 @@ use lib.Dec.{T, eqb, ltb, leb, eqb→eq, leb→le}
 use lib.ListN.{length}
 use mir.Facts.{and-yes}
 use borrow.Author.Tests.{eq-eqb, ne-eqb, lt-ltb, le-leb, lt-leb}
+use Rattle.limits.specs.Limits.{blocks-limit}
 use Rattle.words.specs.Word.{kind, across, down}
-use Rattle.sheet_checks.specs.Check.{word-at, blocks-limit, blocks, sizes-allowed, has-head, allowed-blocks}
+use Rattle.sheet_checks.specs.Check.{word-at, blocks, sizes-allowed, has-head, allowed-blocks}
 
 none : (s t : Bool) (n : ℕ) → 0 ≡ cond (s && (t && false)) n 0
 none true true n = refl

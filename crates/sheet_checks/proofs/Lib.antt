@@ -1,3 +1,4 @@
 -- The laws of the check.
 pub mod Heads
 pub mod Faults
+pub mod Sheets

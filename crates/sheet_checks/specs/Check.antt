@@ -1,30 +1,40 @@
--- The check of a sheet (01, "Sheets" and "Why a set or sheet is turned back"), for any kinds of its head and its body and for any range of
--- the values in its body.
-use mathlib.Core.Path.{_≡_}
+-- The check of a sheet of any format (01, "Sheets" and "Why a set or sheet is turned back").
 use mathlib.Core.Bool.{Bool, cond, _&&_, _||_}
-use mathlib.Core.List.{List}
-use Prim.Native.Nat.{ℕ, suc, _+_, _*_}
-use lib.Dec.{T, eqb, ltb, leb}
+use mathlib.Core.List.{List, [], _∷_}
+use Prim.Native.Nat.{ℕ, suc, _+_, _-_, _*_}
+use lib.Dec.{eqb, ltb, leb}
+use lib.IntN.{ℤ, pos, negℤ}
 use lib.ListN.{length, getD}
 use lib.Signed.{ltZ}
-use Rattle.dct.specs.Limits.{places}
-use Rattle.words.specs.Word.{across, down, end-kind, kind, payload, value}
-use Rattle.answers.specs.Answer.{Returned, unless, unless-at, lowest-cause}
+use Rattle.limits.specs.Limits.{places, blocks-limit, sample-limit}
+use Rattle.words.specs.Word.{across, down, end-kind, kind, payload, sample-head-kind, sample-kind, value}
+use Rattle.answers.specs.Answer.{Cause, unless, unless-at, lowest-cause}
 use Rattle.sheet_checks.specs.declared.Format.{Format}
+use Rattle.sheet_checks.specs.declared.Values.{Values}
+use Rattle.sheet_checks.specs.declared.Values.the-variants.{Samples}
+
+-- the number that refuses a value out of its format's range
+abbrev pub out-of-range : Values → ℕ
+out-of-range Samples = 2
+
+-- a value is out of the range of a format
+abbrev pub outside : Format → ℤ → Bool
+outside f z = ltZ z (f .lowest) || ltZ (f .highest) z
+
+-- the format of a sample sheet
+abbrev pub sample-format : Format
+sample-format =
+    record { head = sample-head-kind; body = sample-kind; values = Samples; lowest = negℤ (pos sample-limit); highest = pos (sample-limit - 1) }
 
 -- word i of a sheet
 abbrev pub word-at : List ℕ → ℕ → ℕ
 word-at words i = getD words i 0
 
--- "Both sizes are at least 1 and their product at most 128"
-
-abbrev pub blocks-limit : ℕ
-blocks-limit = 128
-
 -- the blocks that a sheet's head announces
 abbrev pub blocks : List ℕ → ℕ
 blocks words = across (word-at words 0) * down (word-at words 0)
 
+-- "Both sizes are at least 1 and their product at most 128"
 abbrev pub sizes-allowed : ℕ → Bool
 sizes-allowed w = leb 1 (across w) && (leb 1 (down w) && leb (across w * down w) blocks-limit)
 
@@ -41,19 +51,14 @@ abbrev pub allowed-blocks : ℕ → List ℕ → ℕ
 allowed-blocks k words = cond (has-head k words) (blocks words) 0
 
 -- the causes 6 and 7 of a sheet as a whole, in this order; a wrong count is named by the count given
-unfoldable pub shape : Format → List ℕ → Returned → Returned
-shape f words next =
-    unless (has-head (f .head) words) 6
-    (unless-at (length words) (eqb (length words) (size-of (blocks words))) 7 next)
+abbrev pub shape : Format → List ℕ → List Cause
+shape f words = unless (has-head (f .head) words) 6 ∷ unless-at (length words) (eqb (length words) (size-of (blocks words))) 7 ∷ []
 
 -- the cause of a word that has a fault, "kind before value", and 0 of one that has none
 
 -- a word of the body
 unfoldable pub body-cause : Format → ℕ → ℕ
-body-cause f w =
-    cond (eqb (kind w) (f .body))
-    (cond (ltZ (value (payload w)) (f .lowest) || ltZ (f .highest) (value (payload w))) (f .refusal) 0)
-    7
+body-cause f w = cond (eqb (kind w) (f .body)) (cond (outside f (value (payload w))) (out-of-range (f .values)) 0) 7
 
 -- the end word of n blocks
 unfoldable pub end-cause : ℕ → ℕ → ℕ
@@ -70,14 +75,5 @@ abbrev pub faulty : Format → List ℕ → ℕ → Bool
 faulty f words i = ltb 0 (cause-at f words i)
 
 -- "then the first faulty word"
-unfoldable pub contents : Format → List ℕ → Returned → Returned
-contents f words next = lowest-cause (length words) (cause-at f words) next
-
--- the numbers that can name a faulty word
-abbrev pub names-word : Format → ℕ → Bool
-names-word f cause = eqb cause 7 || (eqb cause 8 || eqb cause (f .refusal))
-
--- what a search for the first faulty word answers: its cause, or 0 where there is none, and its index
-pub record Searched (f : Format) (words : List ℕ) (cause place : ℕ) : Type 0 where
-  pub is : (next : Returned) → contents f words next ≡ unless-at place (eqb cause 0) cause next
-  pub cause-known : T (eqb cause 0 || names-word f cause)
+abbrev pub contents : Format → List ℕ → Cause
+contents f words = lowest-cause (length words) (cause-at f words)

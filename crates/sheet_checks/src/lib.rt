@@ -1,49 +1,64 @@
-// The check of a sheet (01, "Sheets"): does it begin with a head of the right kind whose sizes are allowed, and which of its other words is
-// the first that has a fault? The kinds and the range of values are parameters, so that every kind of sheet can have the same check.
+// The check of a sheet (01, "Sheets"): does it begin with a head of the right kind whose sizes are allowed, does it have as many words as they ask
+// for, and which of these is the first that has a fault? The format is a parameter, so that every kind of sheet can have the same check.
 ghost use mathlib.Core.Path.{_≡_};
+ghost use mathlib.Core.Bool.{true};
+ghost use mathlib.Core.List.{[], _∷_};
 ghost use Prim.Native.Nat.{_<_, _≤_};
+ghost use lib.Dec.{ltb};
 ghost use lib.ListN.{length};
 ghost use Rattle.integers.specs.Search.{any};
+ghost use Rattle.limits.specs.Limits.{blocks-limit};
+ghost use Rattle.answers.specs.Answer.{accept-words, answered, returned};
 ghost use Rattle.sheet_checks.specs.Check as check;
-ghost use Rattle.sheet_checks.specs.Check.{Searched};
-use elements::PLACES;
+ghost use Rattle.sheet_checks.specs.Sheets.{RightShape};
+use answers::Answer;
 use integers::outside;
+use limits::BLOCKS_LIMIT;
+use limits::HIGHEST_SAMPLE;
+use limits::LOWEST_SAMPLE;
+use limits::PLACES;
 use words::END;
+use words::SAMPLE;
+use words::SAMPLE_HEAD;
 use words::kind;
 use words::payload;
 use words::value;
+
+// What the words of a sheet's body hold.
+pub enum Values {
+    Samples,
+}
 
 // What the words of a sheet have to be.
 pub struct Format {
     // The kind of its head.
     pub head: u32,
-    // The kind of the words of its body.
+    // The kind of the words of its body, what they hold, and the lowest and the highest that they may.
     pub body: u32,
-    // The lowest and the highest value that these may hold, and 01's number of the refusal where a word holds another value.
+    pub values: Values,
     pub lowest: i32,
     pub highest: i32,
-    pub refusal: u32,
 }
 
-// A faulty word: 01's number, and its index. Where no word is faulty the number is 0, and the index says nothing.
-pub struct Fault {
-    pub cause: u32,
-    pub place: usize,
-}
-
-// The blocks that a sheet may have.
-pub const BLOCKS_LIMIT: usize = 128;
+// A sheet of samples.
+pub const SAMPLE_FORMAT: Format = Format {
+    head: SAMPLE_HEAD,
+    body: SAMPLE,
+    values: Values::Samples,
+    lowest: LOWEST_SAMPLE,
+    highest: HIGHEST_SAMPLE,
+};
 
 // The words of a sheet of n blocks: a head, the blocks and an end word.
-pub fn size_of(n: usize) -> usize
-    requires { ⌜ n ≤ check.blocks-limit ⌝ }
+fn size_of(n: usize) -> usize
+    requires { ⌜ n ≤ blocks-limit ⌝ }
     ensures { λ r. ⌜ r ≡ check.size-of n ⌝ }
 {
     2 + PLACES * n
 }
 
 // The blocks of a sheet, or 0 where it does not begin with a head of this kind, or its sizes are not allowed: a size of 0 makes 0 blocks.
-pub fn blocks_of(head: u32, sheet: &[u32]) -> usize
+fn blocks_of(head: u32, sheet: &[u32]) -> usize
     ensures { λ r. ⌜ r ≡ check.allowed-blocks head (now (sheet .entry)) ⌝ }
 {
     if sheet.len() == 0 {
@@ -60,34 +75,42 @@ pub fn blocks_of(head: u32, sheet: &[u32]) -> usize
     n
 }
 
-// The cause of a fault in a word of the body, kind before value, or 0.
-fn body_cause(f: Format, w: u32) -> u32
-    ensures { λ r. ⌜ r ≡ check.body-cause f w ⌝ }
+// The check of the head and of the count of words.
+pub fn check_shape(f: Format, sheet: &[u32]) -> Answer
+    ensures { λ r. ⌜ returned r ≡ answered (check.shape f (now (sheet .entry))) (accept-words (length (now (sheet .entry)))) ⌝ }
+{
+    let n = blocks_of(f.head, sheet);
+    if n == 0 {
+        return Answer::Head;
+    }
+    if sheet.len() != size_of(n) {
+        return Answer::Words(sheet.len());
+    }
+    Answer::Accepted(sheet.len())
+}
+
+// Whether a word of the body has a fault.
+fn body_faulty(f: Format, w: u32) -> bool
+    ensures { λ r. ⌜ r ≡ ltb 0 (check.body-cause f w) ⌝ }
 {
     if kind(w) != f.body {
-        return 7;
+        return true;
     }
-    if outside(value(w), f.lowest, f.highest) {
-        return f.refusal;
-    }
-    0
+    outside(value(w), f.lowest, f.highest)
 }
 
-// The cause of a fault in the end word of n blocks, or 0.
-fn end_cause(n: usize, w: u32) -> u32
-    ensures { λ r. ⌜ r ≡ check.end-cause n w ⌝ }
+// Whether the end word of n blocks has one.
+fn end_faulty(n: usize, w: u32) -> bool
+    ensures { λ r. ⌜ r ≡ ltb 0 (check.end-cause n w) ⌝ }
 {
     if kind(w) != END {
-        return 7;
+        return true;
     }
-    if payload(w) as usize != n {
-        return 8;
-    }
-    0
+    payload(w) as usize != n
 }
 
-// Whether any word of a sheet of n blocks is faulty. The loop has no early exit, so that the compiler takes several words at a time.
-fn any_fault(f: Format, n: usize, sheet: &[u32]) -> bool
+// Whether any word of a sheet of n blocks has one. The loop has no early exit, so that the compiler takes several words at a time.
+fn any_faulty(f: Format, n: usize, sheet: &[u32]) -> bool
     requires { ⌜ n ≡ check.blocks (now sheet) ⌝ }
     requires { ⌜ 1 < length (now sheet) ⌝ }
     ensures { λ r. ⌜ r ≡ any (length (now (sheet .entry))) (check.faulty f (now (sheet .entry))) ⌝ }
@@ -96,39 +119,71 @@ fn any_fault(f: Format, n: usize, sheet: &[u32]) -> bool
     let mut r = false;
     let mut k = 1;
     while k < last {
-        r = r | (0 < body_cause(f, sheet[k]));
+        r = r | body_faulty(f, sheet[k]);
         k += 1;
     }
-    r | (0 < end_cause(n, sheet[last]))
+    r | end_faulty(n, sheet[last])
 }
 
-// The first faulty word, found by looking at one after the other.
-fn find_fault(f: Format, n: usize, sheet: &[u32]) -> Fault
+// The refusal of a value that is out of range, at index i.
+fn out_of_range(v: Values, i: usize) -> Answer
+    ensures { λ r. ⌜ returned r ≡ record { number = check.out-of-range v; place = i } ⌝ }
+{
+    match v {
+        Values::Samples => Answer::Sample(i),
+    }
+}
+
+// The refusal of a word of the body that has a fault, at index i: kind before value.
+fn body_refusal(f: Format, w: u32, i: usize) -> Answer
+    requires { ⌜ 0 < check.body-cause f w ⌝ }
+    ensures { λ r. ⌜ returned r ≡ record { number = check.body-cause f w; place = i } ⌝ }
+{
+    if kind(w) != f.body {
+        return Answer::Words(i);
+    }
+    let values = f.values;
+    out_of_range(values, i)
+}
+
+// The refusal of the end word of n blocks, which has a fault, at index i.
+fn end_refusal(n: usize, w: u32, i: usize) -> Answer
+    requires { ⌜ 0 < check.end-cause n w ⌝ }
+    ensures { λ r. ⌜ returned r ≡ record { number = check.end-cause n w; place = i } ⌝ }
+{
+    if kind(w) != END {
+        return Answer::Words(i);
+    }
+    Answer::End(i)
+}
+
+// The refusal of the first word that has a fault, found by looking at one after the other.
+fn first_faulty(f: Format, n: usize, sheet: &[u32]) -> Answer
     requires { ⌜ n ≡ check.blocks (now sheet) ⌝ }
     requires { ⌜ 1 < length (now sheet) ⌝ }
-    ensures { λ r. ⌜ Searched f (now (sheet .entry)) (r .cause) (r .place) ⌝ }
+    requires { ⌜ any (length (now sheet)) (check.faulty f (now sheet)) ≡ true ⌝ }
+    ensures { λ r. ⌜ returned r ≡ answered (check.contents f (now (sheet .entry)) ∷ []) (accept-words (length (now (sheet .entry)))) ⌝ }
 {
     let last = sheet.len() - 1;
     let mut i = 1;
     while i < last {
-        let cause = body_cause(f, sheet[i]);
-        if cause != 0 {
-            return Fault { cause, place: i };
+        let w = sheet[i];
+        if body_faulty(f, w) {
+            return body_refusal(f, w, i);
         }
         i += 1;
     }
-    let cause = end_cause(n, sheet[last]);
-    Fault { cause, place: last }
+    end_refusal(n, sheet[last], last)
 }
 
-// The first faulty word of a sheet of n blocks.
-pub fn first_fault(f: Format, n: usize, sheet: &[u32]) -> Fault
-    requires { ⌜ n ≡ check.blocks (now sheet) ⌝ }
-    requires { ⌜ 1 < length (now sheet) ⌝ }
-    ensures { λ r. ⌜ Searched f (now (sheet .entry)) (r .cause) (r .place) ⌝ }
+// The check of the words of a sheet whose head and count are right.
+pub fn check_words(f: Format, sheet: &[u32]) -> Answer
+    requires { ⌜ RightShape f (now sheet) ⌝ }
+    ensures { λ r. ⌜ returned r ≡ answered (check.contents f (now (sheet .entry)) ∷ []) (accept-words (length (now (sheet .entry)))) ⌝ }
 {
-    if any_fault(f, n, sheet) {
-        return find_fault(f, n, sheet);
+    let n = words::blocks(sheet[0]) as usize;
+    if any_faulty(f, n, sheet) {
+        return first_faulty(f, n, sheet);
     }
-    Fault { cause: 0, place: 0 }
+    Answer::Accepted(sheet.len())
 }

@@ -1,147 +1,120 @@
--- The causes of a refusal of a sheet, in order: one law for each way out of `check`; and an accepted call had none.
+-- The causes of a refusal of a sheet, in order: one law for each way out of `check`; which calls are accepted; and what a call leaves.
 -- Assumes nothing.
 use mathlib.Core.Path.{_≡_, sym, _∙_}
 use mathlib.Core.Bool.{Bool, true, false, not, _&&_}
-use mathlib.Core.List.{List}
+use mathlib.Core.List.{List, [], _∷_}
 use Prim.Native.Nat.{ℕ, _-_, _≤_, _<_}
-use native.Mathlib.Omega.{arith}
-use lib.Dec.{T, eqb, leb, eqb→eq, leb→le}
+use lib.Dec.{T, eqb, leb, lit<, eqb→eq, leb→le}
 use lib.IntN.{ℤ}
 use lib.ListN.{length}
 use mir.Facts.{and-yes}
-use borrow.Author.Tests.{eq-eqb, ne-eqb, le-leb, lt-leb, not-true, not-false}
+use borrow.Author.Tests.{eq-eqb, ne-eqb, le-leb, lt-leb, ltb-true, not-true, not-false}
 use Rattle.integers.specs.Table.{over}
-use Rattle.integers.proofs.Tests.{holds}
-use Rattle.dct.specs.Limits.{components-size}
-use Rattle.answers.specs.Answer.{Returned, unless, unless-at, accept-words, accepted}
-use Rattle.answers.proofs.Accepted.{cause-passes, unless-accepted, unless-at-accepted, cause-accepted}
-use Rattle.transform.specs.Forward.{elements-of}
+use Rattle.limits.specs.Limits.{components-size}
+use Rattle.answers.specs.Answer.{Returned, Cause, Reason, holds, fails, passes, answered, accept-words, accepted, unless}
+use Rattle.answers.proofs.Causes as causes
+use Rattle.answers.proofs.Causes.{some-reason, only-reason, refused-before, passed-before}
+use Rattle.element_sets.specs.Sets.{elements-of}
 use Rattle.rounding.specs.Tables.{width}
-use Rattle.words.specs.Word.{sample-head-kind}
-use Rattle.sheet_checks.specs.Check.{Searched, word-at, blocks, size-of, has-head, allowed-blocks, shape, cause-at, contents}
-use Rattle.sheet_checks.proofs.Faults.{cause-body}
-use Rattle.sheet_checks.proofs.Heads.{some-blocks, no-head, a-head}
+use Rattle.sheet_checks.specs.Check.{sample-format, blocks, shape, cause-at, contents}
+use Rattle.sheet_checks.specs.Sheets.{RightShape, RightSheet, WordFault}
+use Rattle.sheet_checks.proofs.Sheets.{right-shape, shape-passes, contents-pass, right-sheet, refused-word}
 use Rattle.sheet_blocks.specs.Preconditions.{Checked}
 use Rattle.sheet_blocks.specs.Blocks.{block, coefficient-sheet}
-use Rattle.sheets.specs.Sheet.{sample-format, sheet-output, sheet-returned, sheet-scratch}
-use Rattle.sheets.proofs.Samples.{no-cause}
+use Rattle.sheets.specs.Sheet.{sheet-causes, sheet-output, sheet-returned, sheet-scratch}
 
 module _ (words : List ℕ) (b s o : ℕ) where
-  -- r is what `is_width` answers
-  module _ {r : Bool} (e : r ≡ width b) where
-    pub no-width : not r ≡ true → record { number = 3; place = 0 } ≡ sheet-returned words b s o
-    unfolding sheet-returned
-    no-width t = rw (← e, not-true r t)
+  abbrev end : Returned
+  end = accept-words (length words)
 
-    -- at a width, n is what `blocks_of` answers
-    module _ (t : not r ≡ false) {n : ℕ} (f : n ≡ allowed-blocks sample-head-kind words) where
-      at-width : width b ≡ true
-      at-width = sym e ∙ not-false r t
-
-      pub refused-head : n ≡ 0 → record { number = 6; place = 0 } ≡ sheet-returned words b s o
-      unfolding sheet-returned shape
-      refused-head z = rw (at-width, no-head sample-head-kind words (sym f ∙ z))
-
-      -- past the head, n is the number of blocks
-      module _ (some : n ≡ 0 → ⊥) where
-        head : has-head sample-head-kind words ≡ true
-        head = a-head sample-head-kind words (λ z. some (f ∙ z)) .0
-
-        pub counted : n ≡ blocks words
-        counted = f ∙ a-head sample-head-kind words (λ z. some (f ∙ z)) .1
-
-        pub wrong-count : (length words ≡ size-of n → ⊥) → record { number = 7; place = length words } ≡ sheet-returned words b s o
-        unfolding sheet-returned shape
-        wrong-count x = rw (at-width, head, ne-eqb (length words) (size-of (blocks words)) (λ z. x (rw counted z)))
-
-        module _ (c : length words ≡ size-of n) where
-          size-right : eqb (length words) (size-of (blocks words)) ≡ true
-          size-right = eq-eqb (length words) (size-of (blocks words)) (rw counted at c)
-
-          pub wrong-scratch : (s ≡ components-size → ⊥) → record { number = 1; place = 0 } ≡ sheet-returned words b s o
-          unfolding sheet-returned shape
-          wrong-scratch x = rw (at-width, head, size-right, ne-eqb s components-size x)
-
-          module _ (u : s ≡ components-size) where
-            pub short-output : o < length words → record { number = 1; place = 0 } ≡ sheet-returned words b s o
-            unfolding sheet-returned shape
-            short-output l = rw (at-width, head, size-right, eq-eqb s components-size u, lt-leb (length words) o l)
-
-            -- past all of these, the words are searched
-            module _ (l : length words ≤ o) {cause place : ℕ} (S : Searched sample-format words cause place) where
-              searched : sheet-returned words b s o ≡ unless-at place (eqb cause 0) cause (accept-words (length words))
-              unfolding sheet-returned shape
-              searched = rw (at-width, head, size-right, eq-eqb s components-size u, le-leb (length words) o l) (S .is (accept-words (length words)))
-
-              pub faulty-word : (cause ≡ 0 → ⊥) → record { number = cause; place = place } ≡ sheet-returned words b s o
-              faulty-word x = sym (searched ∙ rw (ne-eqb cause 0 x))
-
-              pub no-fault : cause ≡ 0 → accept-words (length words) ≡ sheet-returned words b s o
-              no-fault z = sym (searched ∙ rw z)
-
--- every cause, looked for and not there
-pub record NoCause (words : List ℕ) (b s o : ℕ) : Type 0 where
-  pub at-width : T (width b)
-  pub head : T (has-head sample-head-kind words)
-  pub count : length words ≡ size-of (blocks words)
-  pub scratch-size : s ≡ components-size
-  pub output-size : length words ≤ o
-  pub no-fault : (i : ℕ) → i < length words → cause-at sample-format words i ≡ 0
-
-module _ (words : List ℕ) (b s o : ℕ) where
   abbrev room : Bool
   room = eqb s components-size && leb (length words) o
 
-  abbrev past-shape : Returned
-  past-shape = unless room 1 (contents sample-format words (accept-words (length words)))
+  -- the causes past the width, and past the shape
+  abbrev past-shape : List Cause
+  past-shape = unless room 1 ∷ contents sample-format words ∷ []
 
-  -- an accepted call had no cause
-  pub accepted-no-cause : T (accepted (sheet-returned words b s o)) → NoCause words b s o
-  unfolding sheet-returned shape contents
-  accepted-no-cause a =
-      let counted = eqb (length words) (size-of (blocks words)) in
-      let (w, past-width) = unless-accepted (width b) 2 (shape sample-format words past-shape) a in
-      let (h, past-head) = unless-accepted (has-head sample-head-kind words) 5 (unless-at (length words) counted 7 past-shape) past-width in
-      let (c, past-count) = unless-at-accepted (length words) counted 6 past-shape past-head in
-      let (r, past-room) = unless-accepted room 0 (contents sample-format words (accept-words (length words))) past-count in
-      let (none, done) = cause-accepted (length words) (cause-at sample-format words) (accept-words (length words)) past-room in
-      let (t, l) = and-yes (eqb s components-size) (leb (length words) o) r in
-      record {
-        at-width = w;
-        head = h;
-        count = eqb→eq (length words) (size-of (blocks words)) c;
-        scratch-size = eqb→eq s components-size t;
-        output-size = leb→le (length words) o l;
-        no-fault = none;
-      }
+  -- the call has a reason, and no other answer has one
 
-  -- and a call without one is accepted, and returns the words written
-  pub no-cause-accepted : NoCause words b s o → sheet-returned words b s o ≡ accept-words (length words)
-  unfolding sheet-returned shape contents
-  no-cause-accepted N =
-      rw (
-        holds (width b) (N .at-width),
-        holds (has-head sample-head-kind words) (N .head),
-        eq-eqb (length words) (size-of (blocks words)) (N .count),
-        eq-eqb s components-size (N .scratch-size),
-        le-leb (length words) o (N .output-size),
-      )
-      (cause-passes (length words) (cause-at sample-format words) (accept-words (length words)) (N .no-fault))
+  pub reason : Reason end (sheet-causes words b s o) (sheet-returned words b s o)
+  unfolding sheet-returned
+  reason = some-reason (sheet-causes words b s o) end
 
-  pub accepted-checked : T (accepted (sheet-returned words b s o)) → Checked words b s o
-  accepted-checked a =
-      let N = accepted-no-cause a in
-      record {
-        at-width = N .at-width;
-        words-length = N .count;
-        some-block = some-blocks sample-head-kind words (N .head);
-        samples-in-range = λ i p q. no-cause (word-at words i) (sym (cause-body sample-format words i p q) ∙ N .no-fault i (omega arith)) .1;
-        scratch-size = N .scratch-size;
-        output-size = N .output-size;
-      }
+  pub returned : {r : Returned} → Reason end (sheet-causes words b s o) r → r ≡ sheet-returned words b s o
+  unfolding sheet-returned
+  returned = only-reason
 
-  pub accepted-returns : T (accepted (sheet-returned words b s o)) → sheet-returned words b s o ≡ accept-words (length words)
-  accepted-returns a = no-cause-accepted (accepted-no-cause a)
+  -- r is what `is_width` answers
+  module _ {r : Bool} (e : r ≡ width b) where
+    pub no-width : not r ≡ true → record { number = 3; place = 0 } ≡ sheet-returned words b s o
+    no-width t = returned (holds (fails (sym e ∙ not-true r t)))
+
+    -- at a width, a is what `check_shape` answers, and n its number
+    module _ (t : not r ≡ false) {a : Returned} (f : a ≡ answered (shape sample-format words) end) {n : ℕ} (g : n ≡ a .number) where
+      at-width : T (width b)
+      at-width = rw (← e, not-false r t) tt
+
+      pub wrong-shape : (n ≡ 0 → ⊥) → a ≡ sheet-returned words b s o
+      wrong-shape x =
+          let R : Reason end (shape sample-format words) a = rw f (some-reason (shape sample-format words) end) in
+          returned (passes at-width (refused-before past-shape tt (ne-eqb (a .number) 0 (λ z. x (g ∙ z))) R))
+
+      -- past the shape
+      module _ (z : n ≡ 0) where
+        pub shaped : RightShape sample-format words
+        shaped =
+            let k : T (accepted a) = rw (eq-eqb (a .number) 0 (sym g ∙ z)) tt in
+            let (h, rest) = causes.accepted-means (shape sample-format words) end (lit< tt, (lit< tt, tt)) (rw f at k) in
+            right-shape sample-format words h (rest .0)
+
+        past : {r : Returned} → Reason end past-shape r → r ≡ sheet-returned words b s o
+        past R = returned (passes at-width (passed-before (shape sample-format words) (shape-passes sample-format words shaped) R))
+
+        pub wrong-scratch : (s ≡ components-size → ⊥) → record { number = 1; place = 0 } ≡ sheet-returned words b s o
+        wrong-scratch x = past (holds (fails (rw (ne-eqb s components-size x))))
+
+        module _ (u : s ≡ components-size) where
+          pub short-output : o < length words → record { number = 1; place = 0 } ≡ sheet-returned words b s o
+          short-output l = past (holds (fails (rw (eq-eqb s components-size u, lt-leb (length words) o l))))
+
+          -- past all of these, the words are looked at
+          pub words-decide : length words ≤ o → {r : Returned} → r ≡ answered (contents sample-format words ∷ []) end → r ≡ sheet-returned words b s o
+          words-decide l e =
+              past (passes (rw (eq-eqb s components-size u, le-leb (length words) o l) tt) (rw e (some-reason (contents sample-format words ∷ []) end)))
+
+-- a call is accepted exactly when b is a width, the words are a sample sheet as 01 describes it, and the buffers have room
+
+module _ (words : List ℕ) (b s o : ℕ) where
+  pub accepts : T (width b) → RightSheet sample-format words → s ≡ components-size → length words ≤ o → sheet-returned words b s o ≡ accept-words (length words)
+  unfolding sheet-returned
+  accepts w S e l =
+      let (h, more) = shape-passes sample-format words (S .right-shape) in
+      causes.accepts (sheet-causes words b s o) (accept-words (length words))
+      (w, (h, (more .0, (rw (eq-eqb s components-size e, le-leb (length words) o l) tt, (contents-pass sample-format words S, tt)))))
+
+  -- where all else is right, a refusal names the first faulty word, and its fault
+  pub word-fault : T (width b) → RightShape sample-format words → s ≡ components-size → length words ≤ o → accepted (sheet-returned words b s o) ≡ false
+      → WordFault sample-format words (sheet-returned words b s o)
+  word-fault w S e l x =
+      let R = some-reason (contents sample-format words ∷ []) (accept-words (length words)) in
+      let answer = returned words b s o (passes w (passed-before (shape sample-format words) (shape-passes sample-format words S)
+      (passes (rw (eq-eqb s components-size e, le-leb (length words) o l) tt) R))) in
+      rw answer at (refused-word sample-format words R (rw answer x))
+
+  module _ (a : T (accepted (sheet-returned words b s o))) where
+    pub accepted-means : T (width b) × RightSheet sample-format words × (s ≡ components-size) × (length words ≤ o)
+    unfolding sheet-returned
+    accepted-means =
+        let (w, (h, (c, (r, (none, done))))) = causes.accepted-means (sheet-causes words b s o) (accept-words (length words))
+        (lit< tt, (lit< tt, (lit< tt, (lit< tt, ((λ i. ltb-true 0 (cause-at sample-format words i)), tt))))) a in
+        let (t, l) = and-yes (eqb s components-size) (leb (length words) o) r in
+        (w, right-sheet sample-format words (right-shape sample-format words h c) none, eqb→eq s components-size t, leb→le (length words) o l)
+
+    pub accepted-checked : Checked words b s o
+    accepted-checked = let (w, S, e, l) = accepted-means in record { at-width = w; right = S; scratch-size = e; output-size = l }
+
+    pub accepted-returns : sheet-returned words b s o ≡ accept-words (length words)
+    accepted-returns = let (w, S, e, l) = accepted-means in accepts w S e l
 
 -- what the call leaves, by the number n of the answer a
 
@@ -165,7 +138,7 @@ module _ (words : List ℕ) (b : ℕ) (scratch : List ℤ) (output : List ℕ) {
     pub checked : Checked words b (length scratch) (length output)
     checked = accepted-checked words b (length scratch) (length output) (rw e at is-accepted)
 
-    pub accepted-sheet : {made : List ℤ} {left : List ℕ} → made ≡ elements-of (block words (blocks words - 1))
+    pub accepted-sheet : {made : List ℤ} {left : List ℕ} → made ≡ elements-of 2 (block words (blocks words - 1))
         → left ≡ over (coefficient-sheet b words) output → Promised made left
     unfolding sheet-scratch sheet-output
     accepted-sheet s o = (e, (s ∙ rw (← e, ← f, z), o ∙ rw (← e, ← f, z)))

@@ -11,19 +11,20 @@ use lib.ListN.{length, getD}
 use Rattle.integers.specs.Table.{table, over}
 use Rattle.integers.proofs.Overwriting.{getD-over, getD-beyond}
 use Rattle.integers.proofs.Tables.{getD-table, length-table, table-ext}
-use Rattle.dct.specs.Limits.{distance-numerator, places}
-use Rattle.cuts.specs.Value.{Near}
-use Rattle.cuts.specs.Width.{distance}
+use Rattle.limits.specs.Limits.{distance-numerator, halvings, places}
+use Rattle.rounding_error.specs.Value.{Near}
+use Rattle.rounding_error.specs.Width.{distance}
 use Rattle.elements.specs.Buffer.{element-at}
 use Rattle.answers.specs.Answer.{accept-words, accepted}
-use Rattle.answers.proofs.Accepted.{accepted-written}
-use Rattle.transform.specs.Forward.{elements-of}
-use Rattle.accepted_sets.proofs.BlockSets.{block-set}
+use Rattle.answers.proofs.Causes as causes
+use Rattle.element_sets.specs.Sets.{elements-of}
+use Rattle.element_sets.proofs.Blocks.{block-set}
 use Rattle.rounding.specs.Rounding.{coefficients-of}
 use Rattle.rounding.proofs.Causes.{all-near}
 use Rattle.words.specs.Word.{across, coefficient-head-kind, coefficient-kind, down, kind, payload, payload-of, value, word}
 use Rattle.words.proofs.Packing.{kind-word, payload-word, payload-below, payload-of-below, small-in-range, value-of-payload}
 use Rattle.sheet_checks.specs.Check.{word-at, blocks}
+use Rattle.sheet_checks.proofs.Sheets.{some-blocks}
 use Rattle.sheet_blocks.specs.Preconditions.{Checked}
 use Rattle.sheet_blocks.specs.Blocks.{block, block-coefficients, coefficient-sheet, coefficient-word, output-word}
 use Rattle.sheets.specs.Sheet.{sheet-output, sheet-returned, sheet-scratch}
@@ -42,14 +43,14 @@ module _ (words : List ℕ) (b : ℕ) (scratch : List ℤ) (output : List ℕ) (
   returns-words = accepted-returns words b (length scratch) (length output) a
 
   -- the scratch holds the last block's elements
-  pub last-elements : sheet-scratch words b scratch output ≡ elements-of (block words (blocks words - 1))
+  pub last-elements : sheet-scratch words b scratch output ≡ elements-of 2 (block words (blocks words - 1))
   unfolding sheet-scratch
   last-elements =
-      accepted-written (sheet-returned words b (length scratch) (length output)) (elements-of (block words (blocks words - 1))) scratch a
+      causes.accepted-leaves (sheet-returned words b (length scratch) (length output)) (elements-of 2 (block words (blocks words - 1))) scratch a
 
   written-over : sheet-output words b scratch output ≡ over (coefficient-sheet b words) output
   unfolding sheet-output
-  written-over = accepted-written (sheet-returned words b (length scratch) (length output)) (over (coefficient-sheet b words) output) output a
+  written-over = causes.accepted-leaves (sheet-returned words b (length scratch) (length output)) (over (coefficient-sheet b words) output) output a
 
   abbrev left-at : ℕ → ℕ
   left-at = word-at (sheet-output words b scratch output)
@@ -65,7 +66,7 @@ module _ (words : List ℕ) (b : ℕ) (scratch : List ℤ) (output : List ℕ) (
   pub head-left : (kind (left-at 0) ≡ coefficient-head-kind) × (across (left-at 0) ≡ across (word-at words 0)) × (down (left-at 0) ≡ down (word-at words 0))
   head-left =
       let head = word-at words 0 in
-      let e : left-at 0 ≡ word coefficient-head-kind (payload head) = word-left 0 (omega (arith, checked .words-length)) ∙ output-head b words in
+      let e : left-at 0 ≡ word coefficient-head-kind (payload head) = word-left 0 (omega (arith, checked .right .right-shape .count)) ∙ output-head b words in
       let p = payload-word coefficient-head-kind (payload head) (payload-below head) in
       (rw e (kind-word coefficient-head-kind (payload head) (payload-below head)), rw (e, p), rw (e, p))
 
@@ -82,18 +83,18 @@ module _ (words : List ℕ) (b : ℕ) (scratch : List ℤ) (output : List ℕ) (
 
   -- and that value lies as near to half of the element as demand 3 asks
   pub near-left : (k p : ℕ) → k < blocks words → p < places
-      → Near (value (payload (left-at (1 + places * k + p)))) (element-at (elements-of (block words k)) p) (distance distance-numerator b)
+      → Near halvings (value (payload (left-at (1 + places * k + p)))) (element-at (elements-of 2 (block words k)) p) (distance distance-numerator b)
   unfolding block-coefficients
   near-left k p h l =
       rw (coefficient-left k p h l .1)
-      (all-near (elements-of (block words k)) b (block-set (block words k) (block-range checked k h)) (checked .at-width) .near p l)
+      (all-near (elements-of 2 (block words k)) b (block-set 1 (block words k) (block-range checked k h)) (checked .at-width) .near p l)
 
   -- the same end word
   pub end-left : left-at (length words - 1) ≡ word-at words (length words - 1)
   end-left =
-      let size = checked .words-length in
+      let size = checked .right .right-shape .count in
       let last = length words - 1 in
-      word-left last (omega arith) ∙ output-end b words last (omega (arith, checked .some-block)) (omega arith)
+      word-left last (omega arith) ∙ output-end b words last (omega (arith, some-blocks (checked .right .right-shape))) (omega arith)
 
   -- output beyond is untouched
   pub beyond-left : (i : ℕ) → length words ≤ i → left-at i ≡ getD output i 0
@@ -104,7 +105,11 @@ module _ (words : List ℕ) (b : ℕ) (scratch : List ℤ) (output : List ℕ) (
 pub refused-leaves : (words : List ℕ) (b : ℕ) (scratch : List ℤ) (output : List ℕ) → accepted (sheet-returned words b (length scratch) (length output)) ≡ false
     → (sheet-scratch words b scratch output ≡ scratch) × (sheet-output words b scratch output ≡ output)
 unfolding sheet-scratch sheet-output
-refused-leaves words b scratch output r = (rw r, rw r)
+refused-leaves words b scratch output r =
+    let answer = sheet-returned words b (length scratch) (length output) in (
+      causes.refused-leaves answer (elements-of 2 (block words (blocks words - 1))) scratch r,
+      causes.refused-leaves answer (over (coefficient-sheet b words) output) output r,
+    )
 
 same-block : (v w : List ℕ) (k : ℕ) → ((i : ℕ) → i < places → word-at v (1 + places * k + i) ≡ word-at w (1 + places * k + i)) → block v k ≡ block w k
 unfolding block
@@ -126,5 +131,5 @@ block-independence b v w s t o q a c e f k h same i l =
     let room-v = block-words checked-v k h in
     let room-w = block-words checked-w k (rw sizes at h) in
     word-left v b s o a (1 + places * k + i) (omega arith) ∙ output-body b v k i l room-v
-    ∙ ap (λ x. coefficient-word (coefficients-of b (elements-of x)) i) (same-block v w k same)
+    ∙ ap (λ x. coefficient-word (coefficients-of 2 b (elements-of 2 x)) i) (same-block v w k same)
     ∙ sym (word-left w b t q c (1 + places * k + i) (omega arith) ∙ output-body b w k i l room-w)

@@ -6,129 +6,115 @@ use Prim.Native.Nat.{ℕ, suc, _+_, _*_, _/_, _%_, _≤_, _<_}
 use native.Mathlib.Nat.{le-trans}
 use native.Mathlib.Omega.{arith}
 use lib.Dec.{T, lit≤}
-use lib.IntN.{ℤ, pos, natAbs}
+use lib.IntN.{ℤ, pos}
 use Rattle.integers.specs.Table.{table}
 use Rattle.integers.proofs.Tables.{table-ext}
-use Rattle.ring.specs.Element.{component, scale, number, magnitudes}
+use Rattle.ring.specs.Element.{component, scale, integer, magnitudes}
 use Rattle.ring.specs.Maps.{part, conjugate}
 use Rattle.ring.proofs.Linear.{scale-one}
 use Rattle.ring.proofs.Magnitude.{component-le}
-use Rattle.ring.proofs.Components.{Eight, eight-only}
-use Rattle.dct.specs.Limits.{sample-limit, components-size}
+use Rattle.limits.specs.Limits.{sample-limit, components-size}
 use Rattle.dct.specs.Rows.{source, sign, conjugate-row}
-use Rattle.dct.specs.Transform.{element, step, Bounded}
-use Rattle.dct.proofs.Factors.{eight-step, step-cong}
+use Rattle.dct.specs.Transform.{element, step}
+use Rattle.dct.proofs.Factors.{step-cong}
 use Rattle.dct.proofs.Bound.{bound}
-use Rattle.dct.proofs.Conjugates.{source-below, conjugate-step, conjugate-numbers}
+use Rattle.dct.proofs.Conjugates.{source-below, conjugate-step, conjugate-integers}
 use Rattle.dct.proofs.Dimensions.{first-dimension, element-double-sum, columns-then-rows}
 use Rattle.dct.proofs.Parts.{spans, restricted-step}
 use Rattle.elements.specs.declared.Element.{Element}
-use Rattle.elements.specs.Bound.{bits, headroom}
-use Rattle.elements.specs.Buffer.{Row, Rows, entry, row}
+use Rattle.elements.specs.Bound.{bit-limit, headroom}
+use Rattle.elements.specs.Buffer.{Row, Rows, item, row}
 use Rattle.element_rows.specs.Room.{Small, Room}
-use Rattle.element_rows.proofs.Rooms.{eights, small-le, small-number, row-room}
-use Rattle.number_step.proofs.Halves.{small-step}
-use Rattle.row_steps.specs.Class.{Counts}
-use Rattle.transform.specs.Forward.{sample, AllInRange, elements-of}
-use Rattle.transform.specs.Rows.{Columns, frequencies}
-use Rattle.transform.proofs.Range.{in-range-small}
+use Rattle.element_rows.proofs.Rooms.{eights, small-le, small-integer, row-room}
+use Rattle.integer_step.proofs.Halves.{small-step}
+use Rattle.element_steps.specs.Class.{Counts}
+use Rattle.element_sets.specs.Sets.{sample, AllInRange, elements-of, frequencies}
+use Rattle.element_sets.proofs.Blocks.{column, eight-frequencies, samples-small}
+use Rattle.transform.specs.Rows.{Columns}
 
--- the samples of a column
-abbrev pub column : List ℤ → ℕ → ℕ → ℤ
-column x j i = sample x (8 * i + j)
-
-pub eight-frequencies : (x : List ℤ) (j u : ℕ) → Eight (frequencies x j u)
-eight-frequencies x j u = eight-step (λ i. number (column x j i)) (λ i h. eight-only (column x j i) 0) u
-
-module _ {x : List ℤ} (range : AllInRange x) where
-  small : (q : ℕ) → q < 64 → natAbs (sample x q) ≤ sample-limit
-  small q h = in-range-small 2047 (sample x q) (range .at q h)
-
-  pub bounded : Bounded 2 sample-limit (sample x)
-  bounded q h = small q h
-
+module _ {x : List ℤ} (range : AllInRange 2 x) where
   -- what the step over a column asks
-  pub room-column : {c : List Element} (j : ℕ) → j < 8 → Row 8 (λ i. number (column x j i)) c → Room 8 (bits 27) c
-  room-column j h C = row-room C (λ i l. small-number (column x j i) (le-trans (small (8 * i + j) (omega arith)) (lit≤ tt)))
+  pub room-column : {c : List Element} (j : ℕ) → j < 8 → Row 8 (λ i. integer (column x j i)) c → Room 8 (bit-limit 27) c
+  room-column j h C = row-room C (λ i l. small-integer (column x j i) (le-trans (samples-small range (8 * i + j) (omega arith)) (lit≤ tt)))
 
   frequencies-small : (j u : ℕ) → j < 8 → u < 8 → magnitudes (frequencies x j u) ≤ sample-limit * 8
   frequencies-small j u h k =
-      rw (first-dimension (column x j) u k) at (bound 0 sample-limit (column x j) (λ i l. small (8 * i + j) (omega arith)) u)
+      rw (first-dimension (column x j) u k) at (bound 0 sample-limit (column x j) (λ i l. samples-small range (8 * i + j) (omega arith)) u)
 
-  small-frequencies : (j u : ℕ) → j < 8 → u < 8 → Small (bits 23) (frequencies x j u)
+  small-frequencies : (j u : ℕ) → j < 8 → u < 8 → Small (bit-limit 23) (frequencies x j u)
   small-frequencies j u h k = record {
     eight = eight-frequencies x j u .eight;
     within = record { within = λ i. le-trans (component-le (frequencies x j u) i) (le-trans (frequencies-small j u h k) (lit≤ tt)) };
   }
 
-pub stepped-column : (x : List ℤ) {c e : List Element} (j : ℕ) → Row 8 (λ i. number (column x j i)) c → Row 8 (step (λ n. part (entry c n) 0)) e → Row 8 (frequencies x j) e
+pub stepped-column : (x : List ℤ) {c e : List Element} (j : ℕ) → Row 8 (λ i. integer (column x j i)) c → Row 8 (step (λ n. part (item c n) 0)) e → Row 8 (frequencies x j) e
 stepped-column x {c} j C E = record {
-  at = λ u h. E .at u h ∙ step-cong (λ n. part (entry c n) 0) (λ i. number (column x j i)) u (λ i l. ap (λ a. part a 0) (C .at i l));
+  at = λ u h. E .at u h ∙ step-cong (λ n. part (item c n) 0) (λ i. integer (column x j i)) u (λ i l. ap (λ a. part a 0) (C .at i l));
 }
 
 -- e is row u of the block's elements: the step over what stands at place u of every column
 abbrev pub RowOf : List (List Element) → ℕ → List Element → Type 0
-RowOf x u e = Row 8 (step (λ j. entry (row x j) u)) e
+RowOf x u e = Row 8 (step (λ j. item (row x j) u)) e
 
 -- component i of all of them
 abbrev pub component-of : List (List Element) → ℕ → ℤ
-component-of x i = component (step (λ j. entry (row x j) (i / 8 / 8)) (i / 8 % 8)) (i % 8)
+component-of x i = component (step (λ j. item (row x j) (i / 8 / 8)) (i / 8 % 8)) (i % 8)
 
-pub in-row : (x : List (List Element)) (u : ℕ) {e : List Element} → RowOf x u e → (i : ℕ) → i / 64 ≡ u → component (entry e (i / 8 % 8)) (i % 8) ≡ component-of x i
+pub in-row : (x : List (List Element)) (u : ℕ) {e : List Element} → RowOf x u e → (i : ℕ) → i / 64 ≡ u → component (item e (i / 8 % 8)) (i % 8) ≡ component-of x i
 in-row x u E i q =
     let r : i / 8 / 8 ≡ u = omega arith in
-    ap (λ a. component a (i % 8)) (E .at (i / 8 % 8) (omega arith)) ∙ ap (λ (r : ℕ). component (step (λ j. entry (row x j) r) (i / 8 % 8)) (i % 8)) (sym r)
+    ap (λ a. component a (i % 8)) (E .at (i / 8 % 8) (omega arith)) ∙ ap (λ (r : ℕ). component (step (λ j. item (row x j) r) (i / 8 % 8)) (i % 8)) (sym r)
 
 -- what stands at place u of every column
 
 module _ {x : List (List Element)} (X : Columns x) where
-  at : (j u : ℕ) → j < 8 → u < 8 → entry (row x j) u ≡ frequencies (X .block) j u
+  at : (j u : ℕ) → j < 8 → u < 8 → item (row x j) u ≡ frequencies (X .block) j u
   at j u h k = X .steps .at j h .at u k
 
-  small-at : (j u : ℕ) → j < 8 → u < 8 → Small (bits 23) (entry (row x j) u)
+  small-at : (j u : ℕ) → j < 8 → u < 8 → Small (bit-limit 23) (item (row x j) u)
   small-at j u h k = rw (at j u h k) (small-frequencies (X .range) j u h k)
 
-  module _ (u : ℕ) (h : u < 8) {l : List Element} (L : Row 8 (λ j. entry (row x j) u) l) where
-    pub room-across : Room 8 (bits 23) l
+  module _ (u : ℕ) (h : u < 8) {l : List Element} (L : Row 8 (λ j. item (row x j) u) l) where
+    pub room-across : Room 8 (bit-limit 23) l
     room-across = row-room L (λ j k. small-at j u k h)
 
     -- only the components of its frequency count
     pub counts-across : (m : ℕ) (k : ℕ → ℕ) → T (spans k (suc m) u) → Counts (suc m) k l
     counts-across m k t = record { counts = λ j b. rw (L .at j b, at j u b h) (restricted-step k m (column (X .block) j) u t) }
 
-    pub stepped-across : {e : List Element} → Row 8 (step (entry l)) e → RowOf x u e
-    stepped-across E = record { at = λ v k. E .at v k ∙ step-cong (entry l) (λ j. entry (row x j) u) v (λ j b. L .at j b) }
+    pub stepped-across : {e : List Element} → Row 8 (step (item l)) e → RowOf x u e
+    stepped-across E = record { at = λ v k. E .at v k ∙ step-cong (item l) (λ j. item (row x j) u) v (λ j b. L .at j b) }
 
   pub room-stepped : (u : ℕ) → u < 8 → {e : List Element} → RowOf x u e → Room 8 headroom e
-  room-stepped u h E = row-room E (λ v k. small-le (lit≤ tt) (small-step (λ j. entry (row x j) u) v (λ j b. small-at j u b h)))
+  room-stepped u h E = row-room E (λ v k. small-le (lit≤ tt) (small-step (λ j. item (row x j) u) v (λ j b. small-at j u b h)))
 
   -- the conjugate of a row of elements is another row of them
   module _ (w : ℕ) (h : w < 8) (k : source w < 8) (plus : sign w ≡ pos 1) where
-    conjugate-at : (j : ℕ) → j < 8 → conjugate (entry (row x j) (source w)) ≡ entry (row x j) w
+    conjugate-at : (j : ℕ) → j < 8 → conjugate (item (row x j) (source w)) ≡ item (row x j) w
     unfolding conjugate-row
     conjugate-at j b =
         let f = frequencies (X .block) j in
         ap conjugate (at j (source w) b k) ∙ sym (scale-one (conjugate (f (source w)))) ∙ ap (λ s. scale s (conjugate (f (source w)))) (sym plus)
-        ∙ conjugate-numbers (column (X .block) j) w h ∙ sym (at j w b h)
+        ∙ conjugate-integers (column (X .block) j) w h ∙ sym (at j w b h)
 
-    pub conjugated : {e r : List Element} → RowOf x (source w) e → Row 8 (conjugate-row (entry e)) r → RowOf x w r
+    pub conjugated : {e r : List Element} → RowOf x (source w) e → Row 8 (conjugate-row (item e)) r → RowOf x w r
     unfolding conjugate-row
     conjugated {e} E R = record {
       at = λ v b.
           R .at v b ∙ ap (λ a. scale (sign v) (conjugate a)) (E .at (source v) (source-below v b))
-          ∙ conjugate-step (λ j. entry (row x j) (source w)) (λ j c. eights (small-at j (source w) c k)) v b
-          ∙ step-cong (λ j. conjugate (entry (row x j) (source w))) (λ j. entry (row x j) w) v conjugate-at;
+          ∙ conjugate-step (λ j. item (row x j) (source w)) (λ j c. eights (small-at j (source w) c k)) v b
+          ∙ step-cong (λ j. conjugate (item (row x j) (source w))) (λ j. item (row x j) w) v conjugate-at;
     }
 
 -- columns, then rows
 
 module _ (x : List ℤ) {s : List (List Element)} (S : Rows (frequencies x) s) where
-  exact : (u v : ℕ) → u < 8 → v < 8 → step (λ j. entry (row s j) u) v ≡ element 2 (sample x) (8 * u + v)
+  exact : (u v : ℕ) → u < 8 → v < 8 → step (λ j. item (row s j) u) v ≡ element 2 (sample x) (8 * u + v)
   exact u v h k =
-      step-cong (λ j. entry (row s j) u) (λ j. frequencies x j u) v (λ j l. S .at j l .at u h)
+      step-cong (λ j. item (row s j) u) (λ j. frequencies x j u) v (λ j l. S .at j l .at u h)
       ∙ sym (columns-then-rows (λ i j. sample x (8 * i + j)) u v) ∙ sym (element-double-sum (sample x) u v h k)
 
-  pub stored-elements : table components-size (component-of s) ≡ elements-of x
+  pub stored-elements : table components-size (component-of s) ≡ elements-of 2 x
   unfolding elements-of
   stored-elements = table-ext components-size _ _ same
     where

@@ -1,6 +1,5 @@
--- What columns and then rows make of a block, the store of it, the ways out of the job, and what it leaves.
+-- What columns and then rows make of a block, the store of it, which calls of the job are accepted, and what it leaves.
 pub mod Stores
-pub mod Range
 pub mod Blocks
-pub mod Refusals
+pub mod Acceptance
 pub mod Meaning

@@ -3,7 +3,7 @@
 // `forward` takes any buffers. An accepted call leaves the exact elements; a refused one leaves the buffer as it was, and names the first
 // cause. The work goes by columns, then rows: a step over each column of whole numbers makes a row of eight elements, and a step over what stands
 // at one place of these eight rows makes a row of the block's elements. What stands there has few components that count, so that the rows 0, 4, 6
-// and 1 take the step of their class (`row_steps`); row 2 is the conjugate of 6, and 5, 7 and 3 are those of 1, 5 and 7. Nothing is rounded or
+// and 1 take the step of their class (`element_steps`); row 2 is the conjugate of 6, and 5, 7 and 3 are those of 1, 5 and 7. Nothing is rounded or
 // shifted on the way.
 //
 // 32 bits suffice: a step adds at most four bits to what its elements need (`small-step`), so that samples, of 12 bits besides the sign, need 20 after two steps.
@@ -14,35 +14,33 @@ ghost use lib.ListN.{length};
 ghost use Rattle.integers.specs.Search.{any, first};
 ghost use Rattle.integers.specs.Table.{table};
 ghost use Rattle.ring.specs.Element as ring;
-ghost use Rattle.dct.specs.Limits.{components-size, in-range, places};
+ghost use Rattle.limits.specs.Limits.{components-size, in-range, places};
 ghost use Rattle.dct.specs.Transform as dct;
 ghost use Rattle.answers.specs.Answer.{returned};
-ghost use Rattle.elements.specs.Buffer.{Row, Rows, entry, row};
-ghost use Rattle.transform.specs.Forward.{AllInRange, elements-of, forward-elements, forward-returned, sample};
-ghost use Rattle.transform.specs.Rows.{Columns, RowStored, frequencies};
+ghost use Rattle.elements.specs.Buffer.{Row, Rows, item, row};
+ghost use Rattle.element_sets.specs.Sets.{AllInRange, elements-of, frequencies, sample};
+ghost use Rattle.transform.specs.Forward.{forward-elements, forward-returned};
+ghost use Rattle.transform.specs.Rows.{Columns, RowStored};
 use answers::Answer;
 use element_rows::across;
-use elements::COMPONENTS;
+use element_steps::conjugate_row;
+use element_steps::fours_step;
+use element_steps::odds_step;
+use element_steps::twos_step;
 use elements::Element;
-use elements::PLACES;
 use elements::only;
 use elements::put;
-use number_step::number_step;
-use row_steps::conjugate_row;
-use row_steps::fours_step;
-use row_steps::odds_step;
-use row_steps::twos_step;
-
-// The range of samples.
-pub const LOWEST_SAMPLE: i32 = -2048;
-
-pub const HIGHEST_SAMPLE: i32 = 2047;
+use integer_step::integer_step;
+use limits::COMPONENTS;
+use limits::HIGHEST_SAMPLE;
+use limits::LOWEST_SAMPLE;
+use limits::PLACES;
 
 // Column j of a block, as a row of whole numbers.
 fn column(samples: &[i32], j: usize) -> [Element; 8]
     requires { ⌜ length (now samples) ≡ places ⌝ }
     requires { ⌜ j < 8 ⌝ }
-    ensures { λ r. ⌜ Row 8 (λ i. ring.number (sample (now (samples .entry)) (8 * i + j))) r ⌝ }
+    ensures { λ r. ⌜ Row 8 (λ i. ring.integer (sample (now (samples .entry)) (8 * i + j))) r ⌝ }
 {
     let zero = only(0, 0);
     let mut r = [zero; 8];
@@ -57,18 +55,18 @@ fn column(samples: &[i32], j: usize) -> [Element; 8]
 // A step over each column; what it makes stands as a row. They are written out, so that the compiler knows each index.
 fn columns(samples: &[i32]) -> [[Element; 8]; 8]
     requires { ⌜ length (now samples) ≡ places ⌝ }
-    requires { ⌜ AllInRange (now samples) ⌝ }
+    requires { ⌜ AllInRange 2 (now samples) ⌝ }
     ensures { λ r. ⌜ Rows (frequencies (now (samples .entry))) r ⌝ }
 {
     [
-        number_step(column(samples, 0)),
-        number_step(column(samples, 1)),
-        number_step(column(samples, 2)),
-        number_step(column(samples, 3)),
-        number_step(column(samples, 4)),
-        number_step(column(samples, 5)),
-        number_step(column(samples, 6)),
-        number_step(column(samples, 7)),
+        integer_step(column(samples, 0)),
+        integer_step(column(samples, 1)),
+        integer_step(column(samples, 2)),
+        integer_step(column(samples, 3)),
+        integer_step(column(samples, 4)),
+        integer_step(column(samples, 5)),
+        integer_step(column(samples, 6)),
+        integer_step(column(samples, 7)),
     ]
 }
 
@@ -90,7 +88,7 @@ fn store_row(e: [Element; 8], u: usize, elements: &mut [i32])
 fn rows(x: [[Element; 8]; 8], elements: &mut [i32])
     requires { ⌜ Columns x ⌝ }
     requires { ⌜ length (now elements) ≡ components-size ⌝ }
-    ensures { λ r. ⌜ now (elements .exit) ≡ table components-size (λ i. ring.component (dct.step (λ j. entry (row x j) (i / 8 / 8)) (i / 8 % 8)) (i % 8)) ⌝ }
+    ensures { λ r. ⌜ now (elements .exit) ≡ table components-size (λ i. ring.component (dct.step (λ j. item (row x j) (i / 8 / 8)) (i / 8 % 8)) (i % 8)) ⌝ }
 {
     store_row(fours_step(across(x, 0)), 0, elements);
     store_row(fours_step(across(x, 4)), 4, elements);
@@ -110,8 +108,8 @@ fn rows(x: [[Element; 8]; 8], elements: &mut [i32])
 pub fn transform(samples: &[i32], elements: &mut [i32])
     requires { ⌜ length (now samples) ≡ places ⌝ }
     requires { ⌜ length (now elements) ≡ components-size ⌝ }
-    requires { ⌜ AllInRange (now samples) ⌝ }
-    ensures { λ r. ⌜ now (elements .exit) ≡ elements-of (now (samples .entry)) ⌝ }
+    requires { ⌜ AllInRange 2 (now samples) ⌝ }
+    ensures { λ r. ⌜ now (elements .exit) ≡ elements-of 2 (now (samples .entry)) ⌝ }
 {
     rows(columns(samples), elements);
 }
@@ -154,8 +152,8 @@ fn first_outside(samples: &[i32]) -> usize
 
 // The exact elements of a block of 64 samples, or the reason why there are none; then `elements` is as it was.
 pub fn forward(samples: &[i32], elements: &mut [i32]) -> Answer
-    ensures { λ r. ⌜ returned r ≡ forward-returned (now (samples .entry)) (now (elements .entry)) ⌝ }
-    ensures { λ r. ⌜ now (elements .exit) ≡ forward-elements (now (samples .entry)) (now (elements .entry)) ⌝ }
+    ensures { λ r. ⌜ returned r ≡ forward-returned 2 (now (samples .entry)) (now (elements .entry)) ⌝ }
+    ensures { λ r. ⌜ now (elements .exit) ≡ forward-elements 2 (now (samples .entry)) (now (elements .entry)) ⌝ }
 {
     if samples.len() != PLACES {
         return Answer::Lengths;

@@ -1,5 +1,9 @@
 // The four jobs for programs in other languages: include/weld_dct.h declares them for C, rust/ wraps them for Rust. Each is the job of its crate,
 // with 01's number and place of the answer.
+//
+// Of every function here: it takes any numbers and buffers of any length, and returns. Its contract has no `requires`, and says for every input what
+// it returns and what every buffer that it may write holds afterwards: the whole result, or one refusal with its place, and then each buffer is
+// as it was. It keeps nothing between calls. What a caller in another language has to see to, because no function can look at it, the header says.
 ghost use mathlib.Core.Path.{_≡_};
 ghost use lib.Dec.{T};
 ghost use lib.ListN.{length};
@@ -33,8 +37,8 @@ fn told(a: Answer) -> Returned
 // The exact elements of a block.
 #[no_mangle]
 pub extern "C" fn weld_dct_forward(samples: &[i32], elements: &mut [i32]) -> Returned
-    ensures { λ r. ⌜ number-and-place r ≡ forward-returned (now (samples .entry)) (now (elements .entry)) ⌝ }
-    ensures { λ r. ⌜ now (elements .exit) ≡ forward-elements (now (samples .entry)) (now (elements .entry)) ⌝ }
+    ensures { λ r. ⌜ number-and-place r ≡ forward-returned 2 (now (samples .entry)) (now (elements .entry)) ⌝ }
+    ensures { λ r. ⌜ now (elements .exit) ≡ forward-elements 2 (now (samples .entry)) (now (elements .entry)) ⌝ }
 {
     told(transform::forward(samples, elements))
 }
@@ -42,8 +46,8 @@ pub extern "C" fn weld_dct_forward(samples: &[i32], elements: &mut [i32]) -> Ret
 // The block that has these elements.
 #[no_mangle]
 pub extern "C" fn weld_dct_back(elements: &[i32], samples: &mut [i32]) -> Returned
-    ensures { λ r. ⌜ number-and-place r ≡ back-returned (now (elements .entry)) (now (samples .entry)) ⌝ }
-    ensures { λ r. ⌜ now (samples .exit) ≡ back-samples (now (elements .entry)) (now (samples .entry)) ⌝ }
+    ensures { λ r. ⌜ number-and-place r ≡ back-returned 2 (now (elements .entry)) (now (samples .entry)) ⌝ }
+    ensures { λ r. ⌜ now (samples .exit) ≡ back-samples 2 (now (elements .entry)) (now (samples .entry)) ⌝ }
 {
     told(inverse::back(elements, samples))
 }
@@ -51,9 +55,9 @@ pub extern "C" fn weld_dct_back(elements: &[i32], samples: &mut [i32]) -> Return
 // The coefficients of 64 elements at the width b.
 #[no_mangle]
 pub extern "C" fn weld_dct_round(elements: &[i32], b: u32, coefficients: &mut [i32]) -> Returned
-    ensures { λ r. ⌜ number-and-place r ≡ round-returned (now (elements .entry)) b (now (coefficients .entry)) ⌝ }
-    ensures { λ r. ⌜ now (coefficients .exit) ≡ round-coefficients (now (elements .entry)) b (now (coefficients .entry)) ⌝ }
-    ensures { λ r. ⌜ (T (accepted (number-and-place r)) → AllNear (now (elements .entry)) b (now (coefficients .exit))) ⌝ }
+    ensures { λ r. ⌜ number-and-place r ≡ round-returned 2 (now (elements .entry)) b (now (coefficients .entry)) ⌝ }
+    ensures { λ r. ⌜ now (coefficients .exit) ≡ round-coefficients 2 (now (elements .entry)) b (now (coefficients .entry)) ⌝ }
+    ensures { λ r. ⌜ (T (accepted (number-and-place r)) → AllNear 2 (now (elements .entry)) b (now (coefficients .exit))) ⌝ }
 {
     told(rounding::round(elements, b, coefficients))
 }

@@ -1,14 +1,15 @@
 -- Packing and unpacking are inverse, on the ranges of kinds, payloads, values and sizes.
 -- Assumes nothing.
-use mathlib.Core.Path.{_≡_, refl, ap, _∙_}
+use mathlib.Core.Path.{_≡_, refl, ap, subst, _∙_}
+use mathlib.Core.Bool.{true, false}
 use Prim.Native.Nat.{ℕ, suc, _+_, _-_, _*_, _^_, _≤_, _<_, zero-le}
 use native.Mathlib.Decide.{decLt}
-use native.Mathlib.Nat.{lt-of-le-of-lt}
+use native.Mathlib.Nat.{not-suc-le-zero, lt-of-le-of-lt}
 use native.Mathlib.Omega.{arith}
-use lib.Dec.{ltb→lt, leb→le, lit<, lt→ltb, le→leb}
-use lib.IntN.{ℤ, pos, negsuc, _-ℤ_, negℤ, natAbs}
-use lib.Signed.{_≤ℤ_, _<ℤ_, mag}
-use borrow.Author.Tests.{lt-ltb, le-ltb}
+use lib.Dec.{T, ltb→lt, leb→le, lit<, lt→ltb, le→leb}
+use lib.IntN.{ℤ, pos, negsuc, _+ℤ_, _-ℤ_, negℤ, natAbs}
+use lib.Signed.{_≤ℤ_, _<ℤ_, ltZ, mag, nonNeg}
+use borrow.Author.Tests.{lt-ltb, le-ltb, ltb-true}
 use Rattle.words.specs.Word.{payloads, kind, payload, word, value-limit, value, payload-of, across, down}
 
 -- the kind and the payload of a word
@@ -24,12 +25,6 @@ word-of-parts w = omega arith
 
 pub payload-below : (w : ℕ) → payload w < payloads
 payload-below w = omega arith
-
-pub kind-below : (w : ℕ) → w < 2 ^ 32 → kind w < 16
-kind-below w h = omega arith
-
-pub word-below : (k p : ℕ) → k < 16 → p < payloads → word k p < 2 ^ 32
-word-below k p h l = omega arith
 
 -- the sizes in a head, a across and d down
 
@@ -71,6 +66,28 @@ payload-of-pos n = rw (le-ltb n 0 zero-le) refl
 payload-of-negsuc : (n : ℕ) → payload-of (negsuc n) ≡ payloads - suc n
 unfolding payload-of
 payload-of-negsuc n = refl
+
+-- a negative number, and one that is not, by the code's test
+
+pub payload-of-negative : (z : ℤ) → ltZ z (pos 0) ≡ true → payload-of z ≡ payloads - natAbs z
+unfolding payload-of
+payload-of-negative z e = rw e refl
+
+pub payload-of-other : (z : ℤ) → ltZ z (pos 0) ≡ false → payload-of z ≡ natAbs z
+unfolding payload-of
+payload-of-other z e = rw e refl
+
+pub negative-above : (z : ℤ) → ltZ z (pos 0) ≡ true → 0 < natAbs z
+negative-above (pos m) e = absurd (not-suc-le-zero (ltb-true m 0 e))
+negative-above (negsuc m) e = omega arith
+
+pub negative-plus : (z : ℤ) (n : ℕ) → ltZ z (pos 0) ≡ true → natAbs z ≤ n → z +ℤ pos n ≡ pos (n - natAbs z)
+negative-plus (pos m) n e h = absurd (not-suc-le-zero (ltb-true m 0 e))
+negative-plus (negsuc m) n e h = rw (le-ltb n (suc m) h) refl
+
+pub not-negative : (z : ℤ) → ltZ z (pos 0) ≡ false → T (nonNeg z)
+not-negative (pos m) e = tt
+not-negative (negsuc m) e = subst T e tt
 
 in-range-mag : (z : ℤ) → InRange z → mag z < value-limit
 in-range-mag (pos n) r = ltb→lt n value-limit (r .1 .lt)

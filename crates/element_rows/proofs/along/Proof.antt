@@ -2,10 +2,9 @@
 -- Assumes nothing.
 use mathlib.Core.Path.{_≡_, ap, _∙_}
 use native.Mathlib.Nat.{le-of-eq, le-trans}
-use mir.Syntax.{w32}
-use mir.Val.{ofZ, toZ}
 use borrow.Author.Needs.{needs}
-use Rattle.ring.specs.Element.{component, number}
+use Rattle.integers.proofs.Signed.{in32}
+use Rattle.ring.specs.Element.{component, integer}
 use Rattle.ring.proofs.Components.{Eight}
 use Rattle.element_rows.specs.Angle.{index, signed}
 use Rattle.element_rows.proofs.Angles.{dot-is, signed-size}
@@ -17,7 +16,7 @@ component-requires : tie.Need-component-requires
 component-requires c κs = c .index .ensures .1
 
 -- the component, read back
-read : (c : tie.After-component) → toZ w32 (ofZ w32 (c .component .result)) ≡ component (c .before .before .args .a .components) (index (c .before .before .args .m))
+read : (c : tie.After-component) → in32 (c .component .result) ≡ component (c .before .before .args .a .components) (index (c .before .before .args .m))
 read c =
     let start = c .before .before in
     held (c .component .ensures ∙ ap (component (start .args .a .components)) (c .before .index .ensures .0)) (start .pre .0 .within (index (start .args .m)))
@@ -32,8 +31,8 @@ returns c =
     let m = start .args .m in
     let u = component a (index m) in
     let e : Eight a = record { eight = search needs } in
-    let number-is : toZ w32 (ofZ w32 (c .before .signed .result)) ≡ signed u m = held (c .before .signed .ensures ∙ ap (λ z. signed z m) (read (c .before .before))) (le-trans (le-of-eq (signed-size u m)) (start .pre .0 .within (index m))) in
-    c .only .ensures ∙ ap number (number-is ∙ dot-is m (start .pre .1) e)
+    let integer-is : in32 (c .before .signed .result) ≡ signed u m = held (c .before .signed .ensures ∙ ap (λ z. signed z m) (read (c .before .before))) (le-trans (le-of-eq (signed-size u m)) (start .pre .0 .within (index m))) in
+    c .only .ensures ∙ ap integer (integer-is ∙ dot-is m (start .pre .1) e)
 
 pub along-spec : {M : Type 1} → statement M
 along-spec = tie.close (tie.spec (λ c κs. search needs) component-requires signed-requires (λ c κs. search needs) returns)

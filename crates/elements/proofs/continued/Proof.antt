@@ -7,11 +7,9 @@ use lib.Dec.{lit<}
 use lib.IntN.{pos, _-ℤ_, negℤ, +ℤ-idl}
 use lib.ListN.{length, List·getD-eq-default}
 use mir.Syntax.{w32}
-use mir.Val.{ofZ, toZ}
-use mir.Facts.{toZ-ofZ}
 use borrow.Author.Needs.{needs}
 use Rattle.integers.proofs.Magnitudes.{natAbs-sub}
-use Rattle.integers.proofs.Signed.{op-fits, op-kept}
+use Rattle.integers.proofs.Signed.{read-i32, op-fits, op-kept}
 use Rattle.ring.specs.Element.{component}
 use Rattle.elements.specs.Bound.{headroom}
 use Rattle.elements.proofs.Products.{continued-low, continued-middle, continued-high}
@@ -22,14 +20,14 @@ returns : tie.Need-returns
 returns c =
     let start = c .before .before .before in
     let u = component (start .args .a .components) (7 - start .args .j) in
-    let read : toZ w32 (ofZ w32 u) ≡ u = toZ-ofZ (search needs) in
+    let read = read-i32 u (search needs) in
     read ∙ sym (continued-low (start .args .a .components) (start .args .j) (c .before .if1 .taken))
 
 returns-2 : tie.Need-returns-2
 returns-2 c =
     let start = c .before .before .before .before in
     let u = component (start .args .a .components) (start .args .j - 7) in
-    let read : toZ w32 (ofZ w32 u) ≡ u = toZ-ofZ (search needs) in
+    let read = read-i32 u (search needs) in
     read ∙ sym (continued-middle (start .args .a .components) (start .args .j) (omega arith) (omega arith))
 
 returns-3 : tie.Need-returns-3

@@ -1,13 +1,11 @@
 -- `element_at` meets its contract: the loop copies the components one by one.
 -- Assumes nothing.
-use mathlib.Core.Path.{_≡_, refl}
+use mathlib.Core.Path.{refl}
 use Prim.Native.Nat.{_+_, _-_, _*_}
 use native.Mathlib.Omega.{arith}
 use lib.IntN.{pos}
 use lib.ListN.{getD}
-use mir.Syntax.{w32}
-use mir.Val.{ofZ, toZ}
-use mir.Facts.{toZ-ofZ}
+use Rattle.integers.proofs.Signed.{read-i32}
 use Rattle.integers.proofs.Tables.{Filled, filled-none, filled-more, filled-all}
 use Rattle.elements.specs.Buffer.{element-at}
 use Rattle.elements.proofs.element_at.Statement.{statement}
@@ -23,7 +21,7 @@ loop-again : tie.Need-loop-again Inv-loop μ-loop
 loop-again c =
     let start = c .before .before .before in
     let x = getD (start .args .buffer .now) (8 * start .args .p + c .before .before .loop .k) (pos 0) in
-    let read : toZ w32 (ofZ w32 x) ≡ x = toZ-ofZ (record { sfits = c .r .given }) in
+    let read = read-i32 x (record { sfits = c .r .given }) in
     filled-more (omega arith) (c .before .before .loop .inv) read
 
 returns : tie.Need-returns Inv-loop μ-loop

@@ -1,12 +1,9 @@
 -- `put` meets its contract: the loop stores the components one by one.
 -- Assumes nothing.
-use mathlib.Core.Path.{_≡_}
 use Prim.Native.Nat.{_-_}
 use native.Mathlib.Omega.{arith}
-use mir.Syntax.{w32}
-use mir.Val.{ofZ, toZ}
-use mir.Facts.{toZ-ofZ}
 use borrow.Author.Needs.{needs}
+use Rattle.integers.proofs.Signed.{read-i32}
 use Rattle.ring.specs.Element.{component}
 use Rattle.elements.proofs.Buffers.{Stored, stored-none, stored-more, stored-all}
 use Rattle.elements.proofs.put.Statement.{statement}
@@ -25,7 +22,7 @@ loop-again : tie.Need-loop-again Inv-loop μ-loop
 loop-again c =
     let start = c .before .before .before .before in
     let x = component (start .args .a .components) (c .before .before .loop .k) in
-    let read : toZ w32 (ofZ w32 x) ≡ x = toZ-ofZ (search needs) in
+    let read = read-i32 x (search needs) in
     stored-more (start .pre) (omega arith) (c .before .before .loop .inv) read
 
 same-length : tie.Need-same-length Inv-loop μ-loop

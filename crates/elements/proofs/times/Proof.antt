@@ -6,10 +6,9 @@ use native.Mathlib.Omega.{arith}
 use lib.Dec.{lit<}
 use lib.IntN.{pos, _+ℤ_}
 use mir.Syntax.{w32}
-use mir.Val.{ofZ, toZ}
 use borrow.Author.Needs.{needs}
 use Rattle.integers.proofs.Magnitudes.{natAbs-add}
-use Rattle.integers.proofs.Signed.{op-fits, op-kept}
+use Rattle.integers.proofs.Signed.{in32, op-fits, op-kept}
 use Rattle.integers.proofs.Tables.{Filled, filled-none, filled-more, filled-all}
 use Rattle.ring.proofs.Components.{Eight}
 use Rattle.elements.specs.Bound.{headroom}
@@ -48,7 +47,7 @@ loop-again c =
     let w = start .pre .0 in
     filled-more (omega arith) (c .before .before .before .before .loop .inv)
     (op-kept _+ℤ_ natAbs-add w32 {B = headroom} (lit< tt) (u (7 + i - k)) (u (7 + i + k)) (within-continued w (7 + i - k)) (within-continued w (7 + i + k))
-    (c .plus .ensures ∙ ap₂ (λ x y. toZ w32 (ofZ w32 x) +ℤ toZ w32 (ofZ w32 y)) (c .before .before .continued .ensures) (c .before .continued2 .ensures)))
+    (c .plus .ensures ∙ ap₂ (λ x y. in32 x +ℤ in32 y) (c .before .before .continued .ensures) (c .before .continued2 .ensures)))
 
 returns : tie.Need-returns Inv-loop μ-loop
 returns c =

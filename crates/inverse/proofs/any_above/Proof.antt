@@ -1,16 +1,14 @@
 -- `any_above` meets its contract: the loop asks one number more each time.
 -- Assumes nothing.
-use mathlib.Core.Path.{_≡_, ap, _∙_}
+use mathlib.Core.Path.{ap, _∙_}
 use Prim.Native.Nat.{_-_}
 use native.Mathlib.Omega.{arith}
 use lib.IntN.{pos}
 use lib.ListN.{getD}
-use mir.Syntax.{w32}
-use mir.Val.{ofZ, toZ}
-use mir.Facts.{toZ-ofZ}
 use borrow.Author.Needs.{needs}
+use Rattle.integers.proofs.Signed.{read-i32}
 use Rattle.integers.proofs.Search.{Asked, asked-none, asked-more, asked-all}
-use Rattle.passes_back.specs.Passes.{read-size}
+use Rattle.inverse_passes.specs.Passes.{read-size}
 use Rattle.inverse.specs.Refusal.{beyond-limit}
 use Rattle.inverse.proofs.any_above.Statement.{statement}
 use Rattle.inverse.proofs.any_above.Tie as tie
@@ -25,7 +23,7 @@ loop-again : tie.Need-loop-again Inv-loop μ-loop
 loop-again c =
     let at = c .before .before .before in
     let x = getD (at .before .args .elements .now) (at .loop .k) (pos 0) in
-    let read : toZ w32 (ofZ w32 x) ≡ x = toZ-ofZ (search needs) in
+    let read = read-i32 x (search needs) in
     asked-more (omega arith) (at .loop .inv) (c .above .ensures ∙ ap beyond-limit read)
 
 pub any-above-spec : {M : Type 1} → statement M

@@ -5,9 +5,9 @@ use lib.ListN.{length}
 use borrow.Author.Needs.{needs}
 use borrow.Author.Tests.{ltb-false}
 use Rattle.integers.proofs.Search.{any-none}
-use Rattle.dct.specs.Limits.{places}
-use Rattle.passes_back.specs.Passes.{read-size}
-use Rattle.inverse.proofs.Causes.{wrong-elements, wrong-samples, too-large, no-block, found}
+use Rattle.limits.specs.Limits.{places}
+use Rattle.inverse_passes.specs.Passes.{read-size}
+use Rattle.inverse.proofs.Causes.{wrong-elements, wrong-samples, too-large, no-block, found-block}
 use Rattle.inverse.proofs.back.Statement.{statement}
 use Rattle.inverse.proofs.back.Tie as tie
 
@@ -34,8 +34,7 @@ returns-5 c =
     let restored = compared .before .before in
     let asked = restored .before .before in
     let size : length (restored .restored .result) ≡ places = search needs in
-    let (answer, left) = found _ _ (asked .before .before .if1 .left) (asked .before .if2 .left) (compared .before .is-block-of .ensures) size (compared .if4 .left) in
-    (answer, c .before .store .ensures ∙ left)
+    found-block _ _ (asked .before .before .if1 .left) (asked .before .if2 .left) (compared .before .is-block-of .ensures) size (compared .if4 .left) (c .before .store .ensures)
 
 pub back-spec : {M : Type 1} → statement M
 back-spec =

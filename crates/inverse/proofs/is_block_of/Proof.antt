@@ -13,7 +13,7 @@ returns : tie.Need-returns
 returns c =
     let start = c .before .before .before .before .before .before in
     let number = c .before .number .ensures ∙ ap (λ r. r .number) (c .before .before .before .forward .ensures .0) in
-    forward-refuses (start .args .elements .now) (start .args .t2) (replicate 512 (pos 0)) (search needs) (length-replicate 512 (pos 0))
+    forward-refuses 2 (start .args .t2) (start .args .elements .now) (replicate 512 (pos 0)) (search needs) (length-replicate 512 (pos 0))
     (λ e. c .if1 .taken (number ∙ e))
 
 returns-2 : tie.Need-returns-2
@@ -24,7 +24,7 @@ returns-2 c =
     let e = start .args .elements .now in
     let number = said .number .ensures ∙ ap (λ r. r .number) (forward .0) in
     c .same .ensures ∙ ap (λ l. eqList l e) (forward .1)
-    ∙ forward-accepts e (start .args .t2) (replicate 512 (pos 0)) (sym number ∙ c .before .before .if1 .left)
+    ∙ forward-accepts 2 (start .args .t2) e (replicate 512 (pos 0)) (sym number ∙ c .before .before .if1 .left)
 
 pub is-block-of-spec : {M : Type 1} → statement M
 is-block-of-spec =

@@ -8,5 +8,5 @@ use Rattle.inverse.proofs.refusal.Tie as tie
 pub refusal-spec : {M : Type 1} → statement M
 refusal-spec =
     tie.close
-    (tie.spec (λ c κs. search needs) (λ c. search-finds _ (c .before .first-above-limit .ensures) (c .if1 .taken))
-    (λ c. search-passes _ (c .before .first-above-limit .ensures) (c .if1 .left)))
+    (tie.spec (λ c κs. search needs) (λ c. search-finds _ (c .before .first-above .ensures) (c .if1 .taken))
+    (λ c. search-passes _ (c .before .first-above .ensures) (c .if1 .left)))

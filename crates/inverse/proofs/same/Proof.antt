@@ -1,14 +1,11 @@
 -- `same` meets its contract: the loop goes over all indices, and keeps whether the buffers agree so far.
 -- Assumes nothing.
-use mathlib.Core.Path.{_≡_}
 use Prim.Native.Nat.{_-_}
 use native.Mathlib.Omega.{arith}
 use lib.IntN.{pos}
 use lib.ListN.{getD}
-use mir.Syntax.{w32}
-use mir.Val.{ofZ, toZ}
-use mir.Facts.{toZ-ofZ}
 use borrow.Author.Needs.{needs}
+use Rattle.integers.proofs.Signed.{read-i32}
 use Rattle.inverse.proofs.Comparison.{Agreed, agreed-none, agreed-more, agreed-all}
 use Rattle.inverse.proofs.same.Statement.{statement}
 use Rattle.inverse.proofs.same.Tie as tie
@@ -33,8 +30,8 @@ loop-again c =
     let at = c .before .before .before in
     let a = getD (at .before .args .a .now) (at .loop .i) (pos 0) in
     let b = getD (at .before .args .b .now) (at .loop .i) (pos 0) in
-    let read-a : toZ w32 (ofZ w32 a) ≡ a = toZ-ofZ (search needs) in
-    let read-b : toZ w32 (ofZ w32 b) ≡ b = toZ-ofZ (search needs) in
+    let read-a = read-i32 a (search needs) in
+    let read-b = read-i32 b (search needs) in
     agreed-more (at .loop .inv) read-a read-b
 
 returns : tie.Need-returns Inv-loop μ-loop

@@ -1,14 +1,12 @@
 -- `store` meets its contract: the loop copies from the front.
 -- Assumes nothing.
-use mathlib.Core.Path.{_≡_, refl, sym, _∙_}
+use mathlib.Core.Path.{refl, sym, _∙_}
 use Prim.Native.Nat.{_-_}
 use native.Mathlib.Omega.{arith}
 use lib.IntN.{pos}
 use lib.ListN.{getD}
-use mir.Syntax.{w32}
-use mir.Val.{ofZ, toZ}
-use mir.Facts.{toZ-ofZ}
 use borrow.Author.Needs.{needs}
+use Rattle.integers.proofs.Signed.{read-i32}
 use Rattle.integers.proofs.Tables.{Filled, filled-none, filled-more, filled-all, is-table}
 use Rattle.inverse.proofs.store.Statement.{statement}
 use Rattle.inverse.proofs.store.Tie as tie
@@ -28,7 +26,7 @@ slice-set-from-samples c = omega (arith, c .before .before .loop .inv .each .siz
 loop-again : tie.Need-loop-again Inv-loop μ-loop
 loop-again c =
     let x = getD (c .before .before .before .args .t1) (c .before .before .loop .i) (pos 0) in
-    let read : toZ w32 (ofZ w32 x) ≡ x = toZ-ofZ (search needs) in
+    let read = read-i32 x (search needs) in
     filled-more (omega arith) (c .before .before .loop .inv) read
 
 same-length : tie.Need-same-length Inv-loop μ-loop

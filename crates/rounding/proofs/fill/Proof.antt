@@ -8,22 +8,22 @@ use lib.Dec.{T}
 use lib.IntN.{ℤ, pos}
 use Rattle.integers.proofs.Tables.{Filled, filled-none, filled-more, filled-all}
 use Rattle.ring.specs.Element.{magnitudes}
-use Rattle.dct.specs.Limits.{places, magnitudes-limit}
-use Rattle.cuts.specs.Width.{coefficient}
-use Rattle.elements.specs.Buffer.{element-at}
+use Rattle.limits.specs.Limits.{places, magnitudes-limit, halvings}
+use Rattle.rounding_error.specs.Width.{coefficient}
 use Rattle.rounding.specs.Preconditions.{Allowed}
-use Rattle.rounding.specs.Tables.{width, numbers}
+use Rattle.rounding.specs.Rounding.{coefficient-at}
+use Rattle.rounding.specs.Tables.{width, table-numbers}
 use Rattle.rounding.proofs.Sizes.{sized}
 use Rattle.rounding.proofs.Steps.{coefficient-kept}
 use Rattle.rounding.proofs.fill.Statement.{statement}
 use Rattle.rounding.proofs.fill.Tie as tie
 
-allowed : {b : ℕ} {m u v : List ℤ} → T (width b) → m ≡ numbers b → u ≡ v → magnitudes v ≤ magnitudes-limit → Allowed b m u
+allowed : {b : ℕ} {m u v : List ℤ} → T (width b) → m ≡ table-numbers b → u ≡ v → magnitudes v ≤ magnitudes-limit → Allowed b m u
 allowed w e f h = record { at-width = w; are-numbers = e; in-limit = rw f h }
 
 abbrev Inv-loop : tie.InvT-loop
 Inv-loop elements b coefficients₀ numbers-at-b i₀ coefficients i =
-    Filled (pos 0) places (λ p. coefficient b (numbers b) (element-at elements p)) i coefficients
+    Filled (pos 0) places (coefficient-at 2 b elements) i coefficients
 
 abbrev μ-loop : tie.MeasureT-loop
 μ-loop elements b coefficients₀ numbers-at-b i₀ coefficients i = 64 - i
@@ -47,7 +47,7 @@ loop-again c =
     let element = c .before .element-at .ensures in
     let bounds = sized (allowed (start .pre .ready-width) table element (start .pre .ready-set .in-limit _ (omega arith))) in
     filled-more (omega arith) (c .before .before .before .loop .inv)
-    (coefficient-kept bounds (c .coefficient .ensures) ∙ ap₂ (coefficient (start .args .b)) table element)
+    (coefficient-kept bounds (c .coefficient .ensures) ∙ ap₂ (coefficient halvings (start .args .b)) table element)
 
 returns : tie.Need-returns Inv-loop μ-loop
 returns c = filled-all (omega arith) (c .before .loop .inv)

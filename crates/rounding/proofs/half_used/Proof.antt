@@ -1,13 +1,13 @@
 -- `half_used` meets its contract: the loop looks at every second component.
 -- Assumes nothing.
-use mathlib.Core.Path.{_≡_, sym, ap, _∙_}
+use mathlib.Core.Path.{sym, ap, _∙_}
 use Prim.Native.Nat.{_-_}
 use native.Mathlib.Omega.{arith}
 use mir.Syntax.{w32}
 use mir.Val.{ofZ, toZ}
-use mir.Facts.{toZ-ofZ}
 use borrow.Author.Needs.{needs}
 use borrow.Author.Tests.{eqb-true, not-false}
+use Rattle.integers.proofs.Signed.{read-i32}
 use Rattle.ring.specs.Element.{component}
 use Rattle.rounding.proofs.Halves.{Looked, looked-none, looked-more, looked-all}
 use Rattle.rounding.proofs.half_used.Statement.{statement}
@@ -23,7 +23,7 @@ loop-again : tie.Need-loop-again Inv-loop μ-loop
 loop-again c =
     let at = c .before .before in
     let z = component (at .before .before .args .u .components) (at .loop .k) in
-    let read : toZ w32 (ofZ w32 z) ≡ z = toZ-ofZ (search needs) in
+    let read = read-i32 z (search needs) in
     looked-more (at .loop .inv) (λ e. sym read ∙ ap (toZ w32) (eqb-true (ofZ w32 z) 0 (not-false _ e)))
 
 returns : tie.Need-returns Inv-loop μ-loop

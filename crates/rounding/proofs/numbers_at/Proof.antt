@@ -1,21 +1,21 @@
 -- `numbers_at` meets its contract: each way out is one width.
 -- Assumes nothing.
 use mathlib.Core.Path.{refl}
-use Rattle.rounding.specs.Tables.{numbers}
+use Rattle.rounding.specs.Tables.{table-numbers}
 use Rattle.rounding.proofs.Tables.{third}
 use Rattle.rounding.proofs.numbers_at.Statement.{statement}
 use Rattle.rounding.proofs.numbers_at.Tie as tie
 
 returns : tie.Need-returns
-unfolding numbers
+unfolding table-numbers
 returns c = rw (c .if1 .taken) refl
 
 returns-2 : tie.Need-returns-2
-unfolding numbers
+unfolding table-numbers
 returns-2 c = rw (c .if2 .taken) refl
 
 returns-3 : tie.Need-returns-3
-unfolding numbers
+unfolding table-numbers
 returns-3 c = rw (third (c .before .before .args .b) (c .before .before .pre) (c .before .if1 .left) (c .if2 .left)) refl
 
 pub numbers-at-spec : {M : Type 1} → statement M

@@ -1,9 +1,7 @@
 -- `plus_product` meets its contract: what it asks is what fits.
 -- Assumes nothing.
 use lib.IntN.{_+ℤ_, _*ℤ_}
-use mir.Syntax.{w64}
-use mir.ValLaws.{toZ-ofZ}
-use Rattle.integers.proofs.Signed.{wide-fits, wide-kept}
+use Rattle.integers.proofs.Signed.{wide-fits, wide-kept, read-i64}
 use Rattle.rounding.proofs.plus_product.Statement.{statement}
 use Rattle.rounding.proofs.plus_product.Tie as tie
 
@@ -11,27 +9,27 @@ cast-wide : tie.Need-cast-wide
 cast-wide c = wide-fits (c .args .y) (c .fits .y)
 
 mul-result : tie.Need-mul-result
-mul-result c = rw (toZ-ofZ w64 (c .args .x) (c .fits .x), wide-kept (c .args .y) (c .fits .y)) (c .pre .0)
+mul-result c = rw (read-i64 (c .args .x) (c .fits .x), wide-kept (c .args .y) (c .fits .y)) (c .pre .0)
 
 add-result : tie.Need-add-result
 add-result c =
     rw (
-      toZ-ofZ w64 (c .args .x) (c .fits .x),
+      read-i64 (c .args .x) (c .fits .x),
       wide-kept (c .args .y) (c .fits .y),
-      toZ-ofZ w64 (c .args .s) (c .fits .s),
-      toZ-ofZ w64 (c .args .x *ℤ c .args .y) (c .pre .0),
+      read-i64 (c .args .s) (c .fits .s),
+      read-i64 (c .args .x *ℤ c .args .y) (c .pre .0),
     )
     (c .pre .1)
 
 returns : tie.Need-returns
 returns c =
     rw (
-      toZ-ofZ w64 (c .args .x) (c .fits .x),
+      read-i64 (c .args .x) (c .fits .x),
       wide-kept (c .args .y) (c .fits .y),
-      toZ-ofZ w64 (c .args .s) (c .fits .s),
-      toZ-ofZ w64 (c .args .x *ℤ c .args .y) (c .pre .0),
+      read-i64 (c .args .s) (c .fits .s),
+      read-i64 (c .args .x *ℤ c .args .y) (c .pre .0),
     )
-    (toZ-ofZ w64 (c .args .s +ℤ c .args .x *ℤ c .args .y) (c .pre .1))
+    (read-i64 (c .args .s +ℤ c .args .x *ℤ c .args .y) (c .pre .1))
 
 pub plus-product-spec : {M : Type 1} → statement M
 plus-product-spec = tie.close (tie.spec cast-wide mul-result add-result returns)

@@ -3,10 +3,8 @@
 use mathlib.Core.Path.{sym, ap, _∙_}
 use lib.ListN.{length}
 use Rattle.integers.proofs.Tables.{length-table}
-use Rattle.dct.specs.Limits.{places}
-use Rattle.cuts.specs.Width.{coefficient}
-use Rattle.elements.specs.Buffer.{element-at}
-use Rattle.rounding.specs.Tables.{numbers}
+use Rattle.limits.specs.Limits.{places}
+use Rattle.rounding.specs.Rounding.{coefficient-at}
 use Rattle.rounding.proofs.Causes.{refused-elements, refused-coefficients, refused-width, refused-magnitudes, ready, accepted-call}
 use Rattle.rounding.proofs.round.Statement.{statement}
 use Rattle.rounding.proofs.round.Tie as tie
@@ -27,8 +25,8 @@ returns-3 c =
     refused-width (start .args .elements .now) (start .args .b) (start .args .coefficients .now)
     (c .before .before .before .if1 .left) (c .before .before .if2 .left) (c .before .is-width .ensures) (c .if3 .taken)
 
-first-above-limit-requires : tie.Need-first-above-limit-requires
-first-above-limit-requires c κs = c .before .before .before .if1 .left
+first-above-requires : tie.Need-first-above-requires
+first-above-requires c κs = c .before .before .before .if1 .left
 
 returns-4 : tie.Need-returns-4
 returns-4 c =
@@ -36,7 +34,7 @@ returns-4 c =
     let start = searched .before .before .before .before .before in
     refused-magnitudes (start .args .elements .now) (start .args .b) (start .args .coefficients .now)
     (searched .before .before .before .before .if1 .left) (searched .before .before .before .if2 .left)
-    (searched .before .before .is-width .ensures) (searched .before .if3 .left) (searched .first-above-limit .ensures) (c .if4 .taken)
+    (searched .before .before .is-width .ensures) (searched .before .if3 .left) (searched .first-above .ensures) (c .if4 .taken)
 
 fill-requires : tie.Need-fill-requires
 fill-requires c κs =
@@ -44,14 +42,13 @@ fill-requires c κs =
     let start = searched .before .before .before .before .before in
     ready (start .args .elements .now) (start .args .b) (start .args .coefficients .now)
     (searched .before .before .before .before .if1 .left) (searched .before .before .before .if2 .left)
-    (searched .before .before .is-width .ensures) (searched .before .if3 .left) (searched .first-above-limit .ensures) (c .before .if4 .left)
+    (searched .before .before .is-width .ensures) (searched .before .if3 .left) (searched .first-above .ensures) (c .before .if4 .left)
 
 same-length : tie.Need-same-length
 same-length c =
     let passed = c .before .before .before .before .before .before .before in
     let args = passed .before .before .args in
-    ap length (c .before .fill .ensures)
-    ∙ length-table places (λ p. coefficient (args .b) (numbers (args .b)) (element-at (args .elements .now) p)) ∙ sym (passed .if2 .left)
+    ap length (c .before .fill .ensures) ∙ length-table places (coefficient-at 2 (args .b) (args .elements .now)) ∙ sym (passed .if2 .left)
 
 returns-5 : tie.Need-returns-5
 returns-5 c =
@@ -59,9 +56,9 @@ returns-5 c =
     let start = searched .before .before .before .before .before in
     accepted-call (start .args .elements .now) (start .args .b) (start .args .coefficients .now)
     (searched .before .before .before .before .if1 .left) (searched .before .before .before .if2 .left)
-    (searched .before .before .is-width .ensures) (searched .before .if3 .left) (searched .first-above-limit .ensures)
+    (searched .before .before .is-width .ensures) (searched .before .if3 .left) (searched .first-above .ensures)
     (c .before .before .before .if4 .left) (c .before .fill .ensures)
 
 pub round-spec : {M : Type 1} → statement M
 round-spec =
-    tie.close (tie.spec returns returns-2 (λ c κs. tt) returns-3 first-above-limit-requires returns-4 fill-requires same-length returns-5)
+    tie.close (tie.spec returns returns-2 (λ c κs. tt) returns-3 first-above-requires returns-4 fill-requires same-length returns-5)

@@ -11,10 +11,10 @@ use Rattle.rounding.proofs.sum_of_terms.Statement.{statement}
 use Rattle.rounding.proofs.sum_of_terms.Tie as tie
 
 abbrev Inv-loop : tie.InvT-loop
-Inv-loop b first step numbers a n₀ k₀ n k = Summed b numbers a first step k (toZ w64 n)
+Inv-loop b first step table-numbers a n₀ k₀ n k = Summed b table-numbers a first step k (toZ w64 n)
 
 abbrev μ-loop : tie.MeasureT-loop
-μ-loop b first step numbers a n₀ k₀ n k = 7 - k
+μ-loop b first step table-numbers a n₀ k₀ n k = 7 - k
 
 power-of-two-requires : tie.Need-power-of-two-requires Inv-loop μ-loop
 power-of-two-requires c κs = omega (arith, sized (c .before .pre .0) .width-bound)

@@ -4,6 +4,7 @@ use mathlib.Core.Path.{_≡_, sym, _∙_}
 use Prim.Native.Nat.{_-_}
 use native.Mathlib.Omega.{arith}
 use Rattle.sheet_checks.specs.Check.{blocks}
+use Rattle.sheet_checks.proofs.Sheets.{some-blocks}
 use Rattle.sheet_blocks.proofs.Loop.{Reached, reached-none, reached-more, checked-on}
 use Rattle.sheet_blocks.proofs.all_blocks.Statement.{statement}
 use Rattle.sheet_blocks.proofs.all_blocks.Tie as tie
@@ -21,7 +22,7 @@ next-block-requires : tie.Need-next-block-requires Inv-loop μ-loop
 next-block-requires c κs =
     let at = c .before .before .before .before in
     let checked = at .before .before .before .pre in
-    (checked-on checked (at .loop .inv), omega (arith, checked .words-length))
+    (checked-on checked (at .loop .inv), omega (arith, checked .right .right-shape .count))
 
 loop-less : tie.Need-loop-less Inv-loop μ-loop
 loop-less c =
@@ -34,7 +35,7 @@ loop-again c =
     let at = called .before .before .before .before .before in
     let checked = at .before .before .before .pre in
     rw (called .next-block .ensures .0)
-    (reached-more (at .loop .inv) (omega (arith, checked .words-length)) (called .next-block .kept .1 .1 .1 .0) (called .next-block .kept .1 .1 .1 .1 .0)
+    (reached-more (at .loop .inv) (omega (arith, checked .right .right-shape .count)) (called .next-block .kept .1 .1 .1 .0) (called .next-block .kept .1 .1 .1 .1 .0)
     (called .next-block .ensures .1 .0) (called .next-block .ensures .1 .1))
 
 same-length : tie.Need-same-length Inv-loop μ-loop
@@ -50,9 +51,9 @@ returns c =
     let at = c .before .before in
     let checked = at .before .before .before .pre in
     let all : at .loop .state .blocks ≡ blocks (at .before .before .before .args .words .now) =
-    omega (arith, checked .words-length, at .loop .inv .done) in
+    omega (arith, checked .right .right-shape .count, at .loop .inv .done) in
     let reached = at .loop .inv in
-    (rw all at (reached .last-block (omega (arith, checked .some-block))), rw all at (reached .so-far))
+    (rw all at (reached .last-block (omega (arith, some-blocks (checked .right .right-shape)))), rw all at (reached .so-far))
 
 pub all-blocks-spec : {M : Type 1} → statement M
 all-blocks-spec =

@@ -2,7 +2,7 @@
 -- Assumes nothing.
 use mathlib.Core.Path.{refl, ap, _∙_}
 use borrow.Author.Needs.{needs}
-use Rattle.transform.specs.Forward.{elements-of}
+use Rattle.element_sets.specs.Sets.{elements-of}
 use Rattle.rounding.specs.Rounding.{coefficients-of}
 use Rattle.sheet_blocks.specs.Blocks.{block-coefficients}
 use Rattle.sheet_blocks.proofs.Samples.{block-length, block-ready}
@@ -20,7 +20,7 @@ fill-requires c κs =
     let turned = c .before .before .before in
     let made = turned .before .before .before in
     let start = made .before .before in
-    block-ready (start .pre .1 .1 .0) (turned .transform .ensures ∙ ap elements-of (made .block .ensures)) refl (start .pre .0)
+    block-ready (start .pre .1 .1 .0) (turned .transform .ensures ∙ ap (elements-of 2) (made .block .ensures)) refl (start .pre .0)
 
 returns : tie.Need-returns
 unfolding block-coefficients
@@ -28,8 +28,8 @@ returns c =
     let turned = c .before .before .before .before .before in
     let made = turned .before .before .before in
     let start = made .before .before in
-    let elements = turned .transform .ensures ∙ ap elements-of (made .block .ensures) in
-    (c .before .fill .ensures ∙ ap (coefficients-of (start .args .b)) elements, elements)
+    let elements = turned .transform .ensures ∙ ap (elements-of 2) (made .block .ensures) in
+    (c .before .fill .ensures ∙ ap (coefficients-of 2 (start .args .b)) elements, elements)
 
 pub coefficients-spec : {M : Type 1} → statement M
 coefficients-spec =

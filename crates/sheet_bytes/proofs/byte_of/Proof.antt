@@ -15,23 +15,8 @@ as-power w (suc (suc zero)) h = refl
 as-power w (suc (suc (suc zero))) h = refl
 as-power w (suc (suc (suc (suc i)))) h = absurd (omega arith)
 
-cast-shift : tie.Need-cast-shift
-cast-shift c = search needs
-
-mul-shift : tie.Need-mul-shift
-mul-shift c = search needs
-
-sub-shift : tie.Need-sub-shift
-sub-shift c = search needs
-
-shr-result : tie.Need-shr-result
-shr-result c = search needs
-
-cast-result : tie.Need-cast-result
-cast-result c = search needs
-
 returns : tie.Need-returns
 returns c = as-power (c .args .w) (c .args .i) (c .pre)
 
 pub byte-of-spec : {M : Type 1} → statement M
-byte-of-spec = tie.close (tie.spec cast-shift mul-shift sub-shift shr-result cast-result returns)
+byte-of-spec = tie.close (tie.spec (λ c. search needs) (λ c. search needs) (λ c. search needs) (λ c. search needs) (λ c. search needs) returns)

@@ -16,23 +16,8 @@ abbrev μ-loop : tie.MeasureT-loop
 loop-holds : tie.Need-loop-holds Inv-loop μ-loop
 loop-holds c = begun-none (omega arith)
 
-mul-word-from : tie.Need-mul-word-from Inv-loop μ-loop
-mul-word-from c = omega arith
-
-word-from-requires : tie.Need-word-from-requires Inv-loop μ-loop
-word-from-requires c κs = omega arith
-
-mul-words : tie.Need-mul-words Inv-loop μ-loop
-mul-words c = omega arith
-
 slice-write-words : tie.Need-slice-write-words Inv-loop μ-loop
 slice-write-words c = omega (arith, begun-length (c .before .before .loop .inv))
-
-add-i : tie.Need-add-i Inv-loop μ-loop
-add-i c = omega arith
-
-loop-less : tie.Need-loop-less Inv-loop μ-loop
-loop-less c = omega arith
 
 loop-again : tie.Need-loop-again Inv-loop μ-loop
 loop-again c = begun-more (omega arith) (c .before .before .loop .inv) (c .word-from .ensures)
@@ -47,4 +32,5 @@ returns c = begun-all (omega arith) (c .before .loop .inv)
 pub load-spec : {M : Type 1} → statement M
 load-spec =
     tie.close
-    (tie.spec Inv-loop μ-loop loop-holds mul-word-from word-from-requires mul-words slice-write-words add-i loop-less loop-again same-length returns)
+    (tie.spec Inv-loop μ-loop loop-holds (λ c. omega arith) (λ c κs. omega arith) (λ c. omega arith) slice-write-words (λ c. omega arith)
+    (λ c. omega arith) loop-again same-length returns)

@@ -15,29 +15,11 @@ Inv-loop words output₀ n i₀ output i = Begun (λ k. byte-of (getD words (k /
 abbrev μ-loop : tie.MeasureT-loop
 μ-loop words output₀ n i₀ output i = n - i
 
-mul-n : tie.Need-mul-n Inv-loop μ-loop
-mul-n c = omega arith
-
 loop-holds : tie.Need-loop-holds Inv-loop μ-loop
 loop-holds c = begun-none (omega arith)
 
-mul-byte-of : tie.Need-mul-byte-of Inv-loop μ-loop
-mul-byte-of c = omega arith
-
-shared-slice-read-byte-of : tie.Need-shared-slice-read-byte-of Inv-loop μ-loop
-shared-slice-read-byte-of c = omega arith
-
-byte-of-requires : tie.Need-byte-of-requires Inv-loop μ-loop
-byte-of-requires c κs = omega arith
-
 slice-write-output : tie.Need-slice-write-output Inv-loop μ-loop
 slice-write-output c = omega (arith, begun-length (c .before .before .before .loop .inv))
-
-add-i : tie.Need-add-i Inv-loop μ-loop
-add-i c = omega arith
-
-loop-less : tie.Need-loop-less Inv-loop μ-loop
-loop-less c = omega arith
 
 loop-again : tie.Need-loop-again Inv-loop μ-loop
 loop-again c = begun-more (omega arith) (c .before .before .before .loop .inv) (c .byte-of .ensures)
@@ -52,5 +34,5 @@ returns c = (refl, begun-all (omega arith) (c .before .loop .inv))
 pub store-spec : {M : Type 1} → statement M
 store-spec =
     tie.close
-    (tie.spec Inv-loop μ-loop mul-n loop-holds mul-byte-of shared-slice-read-byte-of byte-of-requires slice-write-output add-i loop-less loop-again
-    same-length returns)
+    (tie.spec Inv-loop μ-loop (λ c. omega arith) loop-holds (λ c. omega arith) (λ c. omega arith) (λ c κs. omega arith) slice-write-output
+    (λ c. omega arith) (λ c. omega arith) loop-again same-length returns)

@@ -10,20 +10,8 @@ use Rattle.sheet_checks.proofs.blocks_of.Tie as tie
 returns : tie.Need-returns
 returns c = no-words _ _ (c .if1 .taken)
 
-shared-slice-read-w : tie.Need-shared-slice-read-w
-shared-slice-read-w c = search needs
-
-kind-requires : tie.Need-kind-requires
-kind-requires c κs = search needs
-
 returns-2 : tie.Need-returns-2
 returns-2 c = other-kind _ _ (omega arith) (λ e. c .if2 .taken (c .before .kind .ensures ∙ e))
-
-blocks-requires : tie.Need-blocks-requires
-blocks-requires c κs = search needs
-
-cast-n : tie.Need-cast-n
-cast-n c = search needs
 
 returns-3 : tie.Need-returns-3
 returns-3 c =
@@ -38,4 +26,4 @@ returns-4 c =
 
 pub blocks-of-spec : {M : Type 1} → statement M
 blocks-of-spec =
-    tie.close (tie.spec returns shared-slice-read-w kind-requires returns-2 blocks-requires cast-n returns-3 returns-4)
+    tie.close (tie.spec returns (λ c. search needs) (λ c κs. search needs) returns-2 (λ c κs. search needs) (λ c. search needs) returns-3 returns-4)

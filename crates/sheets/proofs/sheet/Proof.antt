@@ -5,24 +5,12 @@ use Rattle.sheets.proofs.Causes.{refused-sheet, accepted-sheet, checked
 use Rattle.sheets.proofs.sheet.Statement.{statement}
 use Rattle.sheets.proofs.sheet.Tie as tie
 
-check-requires : tie.Need-check-requires
-check-requires c κs = search needs
-
-number-requires : tie.Need-number-requires
-number-requires c κs = search needs
-
 convert-requires : tie.Need-convert-requires
 convert-requires c κs =
     let asked = c .before .before .before in
     let start = asked .before .before .before .before in
     checked (start .args .words .now) (start .args .b) (start .args .scratch .now) (start .args .output .now) (asked .before .check .ensures)
     (asked .number .ensures) (c .before .before .if1 .taken)
-
-same-length : tie.Need-same-length
-same-length c = search needs
-
-same-length-2 : tie.Need-same-length-2
-same-length-2 c = search needs
 
 returns : tie.Need-returns
 returns c =
@@ -36,5 +24,4 @@ returns-2 c = refused-sheet _ _ _ _ (c .before .before .check .ensures) (c .befo
 
 pub sheet-spec : {M : Type 1} → statement M
 sheet-spec =
-    tie.close
-    (tie.spec check-requires number-requires convert-requires same-length same-length-2 returns returns-2)
+    tie.close (tie.spec (λ c κs. search needs) (λ c κs. search needs) convert-requires (λ c. search needs) (λ c. search needs) returns returns-2)

@@ -1,16 +1,14 @@
 -- `any_outside` meets its contract: the loop asks one sample more each time.
 -- Assumes nothing.
-use mathlib.Core.Path.{_≡_, ap, _∙_}
+use mathlib.Core.Path.{ap, _∙_}
 use mathlib.Core.Bool.{not}
 use Prim.Native.Nat.{_-_}
 use native.Mathlib.Omega.{arith}
-use mir.Syntax.{w32}
-use mir.Val.{ofZ, toZ}
-use mir.Facts.{toZ-ofZ}
 use borrow.Author.Needs.{needs}
+use Rattle.integers.proofs.Signed.{read-i32}
 use Rattle.integers.proofs.Search.{Asked, asked-none, asked-more, asked-all}
-use Rattle.dct.specs.Limits.{places, in-range}
-use Rattle.transform.specs.Forward.{sample}
+use Rattle.limits.specs.Limits.{places, in-range}
+use Rattle.element_sets.specs.Sets.{sample}
 use Rattle.transform.proofs.any_outside.Statement.{statement}
 use Rattle.transform.proofs.any_outside.Tie as tie
 
@@ -24,7 +22,7 @@ loop-again : tie.Need-loop-again Inv-loop μ-loop
 loop-again c =
     let at = c .before .before .before in
     let x = sample (at .before .args .samples .now) (at .loop .i) in
-    let read : toZ w32 (ofZ w32 x) ≡ x = toZ-ofZ (search needs) in
+    let read = read-i32 x (search needs) in
     asked-more (omega arith) (at .loop .inv) (c .outside .ensures ∙ ap (λ z. not (in-range z)) read)
 
 pub any-outside-spec : {M : Type 1} → statement M

@@ -6,18 +6,16 @@ use Prim.Native.Nat.{_+_, _-_, _*_}
 use native.Mathlib.Omega.{arith}
 use lib.Dec.{lit<}
 use lib.ListN.{length-replicate}
-use mir.Syntax.{w32}
-use mir.Val.{ofZ, toZ}
-use mir.Facts.{toZ-ofZ}
 use borrow.Author.Needs.{needs}
+use Rattle.integers.proofs.Signed.{read-i32}
 use Rattle.integers.proofs.Tables.{Each, each-none, each-more}
-use Rattle.ring.specs.Element.{number}
-use Rattle.transform.specs.Forward.{sample}
+use Rattle.ring.specs.Element.{integer}
+use Rattle.element_sets.specs.Sets.{sample}
 use Rattle.transform.proofs.column.Statement.{statement}
 use Rattle.transform.proofs.column.Tie as tie
 
 abbrev Inv-loop : tie.InvT-loop
-Inv-loop samples j r₀ i₀ r i = Each (record { components = [] }) 8 (λ i e. e .components ≡ number (sample samples (8 * i + j))) i r
+Inv-loop samples j r₀ i₀ r i = Each (record { components = [] }) 8 (λ i e. e .components ≡ integer (sample samples (8 * i + j))) i r
 
 abbrev μ-loop : tie.MeasureT-loop
 μ-loop samples j r₀ i₀ r i = 8 - i
@@ -29,8 +27,8 @@ loop-again : tie.Need-loop-again Inv-loop μ-loop
 loop-again c =
     let start = c .before .before .before .before .before in
     let x = sample (start .args .samples .now) (8 * c .before .before .before .loop .i + start .args .j) in
-    let read : toZ w32 (ofZ w32 x) ≡ x = toZ-ofZ (search needs) in
-    each-more (omega arith) (c .before .before .before .loop .inv) (c .only2 .ensures ∙ ap number read)
+    let read = read-i32 x (search needs) in
+    each-more (omega arith) (c .before .before .before .loop .inv) (c .only2 .ensures ∙ ap integer read)
 
 returns : tie.Need-returns Inv-loop μ-loop
 returns c = record { at = λ i h. c .before .loop .inv .done i (omega arith) }

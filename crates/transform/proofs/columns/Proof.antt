@@ -1,4 +1,4 @@
--- `columns` meets its contract: eight columns, as `number_step` makes them.
+-- `columns` meets its contract: eight columns, as `integer_step` makes them.
 -- Assumes nothing.
 use lib.Dec.{lit<}
 use Rattle.element_rows.proofs.Rooms.{rows-8}
@@ -10,14 +10,14 @@ returns : tie.Need-returns
 returns c =
     let x = c .before .before .before .before .before .before .before .before .before .before .before .before .before .before .before .before .args .samples .now in
     rows-8
-    (stepped-column x 0 (c .before .before .before .before .before .before .before .before .before .before .before .before .before .before .before .column .ensures) (c .before .before .before .before .before .before .before .before .before .before .before .before .before .before .number-step .ensures))
-    (stepped-column x 1 (c .before .before .before .before .before .before .before .before .before .before .before .before .before .column2 .ensures) (c .before .before .before .before .before .before .before .before .before .before .before .before .number-step2 .ensures))
-    (stepped-column x 2 (c .before .before .before .before .before .before .before .before .before .before .before .column3 .ensures) (c .before .before .before .before .before .before .before .before .before .before .number-step3 .ensures))
-    (stepped-column x 3 (c .before .before .before .before .before .before .before .before .before .column4 .ensures) (c .before .before .before .before .before .before .before .before .number-step4 .ensures))
-    (stepped-column x 4 (c .before .before .before .before .before .before .before .column5 .ensures) (c .before .before .before .before .before .before .number-step5 .ensures))
-    (stepped-column x 5 (c .before .before .before .before .before .column6 .ensures) (c .before .before .before .before .number-step6 .ensures))
-    (stepped-column x 6 (c .before .before .before .column7 .ensures) (c .before .before .number-step7 .ensures))
-    (stepped-column x 7 (c .before .column8 .ensures) (c .number-step8 .ensures))
+    (stepped-column x 0 (c .before .before .before .before .before .before .before .before .before .before .before .before .before .before .before .column .ensures) (c .before .before .before .before .before .before .before .before .before .before .before .before .before .before .integer-step .ensures))
+    (stepped-column x 1 (c .before .before .before .before .before .before .before .before .before .before .before .before .before .column2 .ensures) (c .before .before .before .before .before .before .before .before .before .before .before .before .integer-step2 .ensures))
+    (stepped-column x 2 (c .before .before .before .before .before .before .before .before .before .before .before .column3 .ensures) (c .before .before .before .before .before .before .before .before .before .before .integer-step3 .ensures))
+    (stepped-column x 3 (c .before .before .before .before .before .before .before .before .before .column4 .ensures) (c .before .before .before .before .before .before .before .before .integer-step4 .ensures))
+    (stepped-column x 4 (c .before .before .before .before .before .before .before .column5 .ensures) (c .before .before .before .before .before .before .integer-step5 .ensures))
+    (stepped-column x 5 (c .before .before .before .before .before .column6 .ensures) (c .before .before .before .before .integer-step6 .ensures))
+    (stepped-column x 6 (c .before .before .before .column7 .ensures) (c .before .before .integer-step7 .ensures))
+    (stepped-column x 7 (c .before .column8 .ensures) (c .integer-step8 .ensures))
 
 pub columns-spec : {M : Type 1} → statement M
 columns-spec =

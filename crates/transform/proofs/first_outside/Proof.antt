@@ -4,13 +4,11 @@ use mathlib.Core.Path.{_≡_, sym, ap, _∙_}
 use mathlib.Core.Bool.{not}
 use Prim.Native.Nat.{_-_}
 use native.Mathlib.Omega.{arith}
-use mir.Syntax.{w32}
-use mir.Val.{ofZ, toZ}
-use mir.Facts.{toZ-ofZ}
 use borrow.Author.Needs.{needs}
+use Rattle.integers.proofs.Signed.{read-i32}
 use Rattle.integers.proofs.Search.{Passed, passed-none, passed-more, first-at, first-none}
-use Rattle.dct.specs.Limits.{places, in-range}
-use Rattle.transform.specs.Forward.{sample}
+use Rattle.limits.specs.Limits.{places, in-range}
+use Rattle.element_sets.specs.Sets.{sample}
 use Rattle.transform.proofs.first_outside.Statement.{statement}
 use Rattle.transform.proofs.first_outside.Tie as tie
 
@@ -26,14 +24,14 @@ loop-holds c = passed-none
 returns : tie.Need-returns Inv-loop μ-loop
 returns c =
     let x = sample (c .before .before .before .before .before .args .samples .now) (c .before .before .before .before .loop .i) in
-    let read : toZ w32 (ofZ w32 x) ≡ x = toZ-ofZ (search needs) in
+    let read = read-i32 x (search needs) in
     sym (first-at places _ _ (omega arith) (c .before .before .before .before .loop .inv)
     (ap (λ z. not (in-range z)) (sym read) ∙ sym (c .before .outside .ensures) ∙ c .if1 .taken))
 
 loop-again : tie.Need-loop-again Inv-loop μ-loop
 loop-again c =
     let x = sample (c .before .before .before .before .before .args .samples .now) (c .before .before .before .before .loop .i) in
-    let read : toZ w32 (ofZ w32 x) ≡ x = toZ-ofZ (search needs) in
+    let read = read-i32 x (search needs) in
     passed-more (omega arith) (c .before .before .before .before .loop .inv)
     (ap (λ z. not (in-range z)) (sym read) ∙ sym (c .before .outside .ensures) ∙ c .if1 .left)
 

@@ -5,14 +5,8 @@ use borrow.Author.Needs.{needs}
 use Rattle.weld_dct.proofs.told.Statement.{statement}
 use Rattle.weld_dct.proofs.told.Tie as tie
 
-number-requires : tie.Need-number-requires
-number-requires c κs = search needs
-
-place-requires : tie.Need-place-requires
-place-requires c κs = search needs
-
 returns : tie.Need-returns
 returns c = ap₂ (λ n p. record { number = n; place = p }) (c .before .number .ensures) (c .place .ensures)
 
 pub told-spec : {M : Type 1} → statement M
-told-spec = tie.close (tie.spec number-requires place-requires returns)
+told-spec = tie.close (tie.spec (λ c κs. search needs) (λ c κs. search needs) returns)

@@ -5,17 +5,8 @@ use borrow.Author.Needs.{needs}
 use Rattle.weld_dct.proofs.weld_dct_back.Statement.{statement}
 use Rattle.weld_dct.proofs.weld_dct_back.Tie as tie
 
-back-requires : tie.Need-back-requires
-back-requires c κs = search needs
-
-told-requires : tie.Need-told-requires
-told-requires c κs = search needs
-
-same-length : tie.Need-same-length
-same-length c = search needs
-
 returns : tie.Need-returns
 returns c = (c .told .ensures ∙ c .before .before .back .ensures .0, c .before .before .back .ensures .1)
 
 pub weld-dct-back-spec : {M : Type 1} → statement M
-weld-dct-back-spec = tie.close (tie.spec back-requires told-requires same-length returns)
+weld-dct-back-spec = tie.close (tie.spec (λ c κs. search needs) (λ c κs. search needs) (λ c. search needs) returns)

@@ -7,19 +7,10 @@ use Rattle.answers.specs.Answer.{accepted}
 use Rattle.weld_dct.proofs.weld_dct_round.Statement.{statement}
 use Rattle.weld_dct.proofs.weld_dct_round.Tie as tie
 
-round-requires : tie.Need-round-requires
-round-requires c κs = search needs
-
-told-requires : tie.Need-told-requires
-told-requires c κs = search needs
-
-same-length : tie.Need-same-length
-same-length c = search needs
-
 returns : tie.Need-returns
 returns c =
     let round = c .before .before .round .ensures in
     (c .told .ensures ∙ round .0, (round .1 .0, λ a. round .1 .1 (subst (λ r. T (accepted r)) (c .told .ensures) a)))
 
 pub weld-dct-round-spec : {M : Type 1} → statement M
-weld-dct-round-spec = tie.close (tie.spec round-requires told-requires same-length returns)
+weld-dct-round-spec = tie.close (tie.spec (λ c κs. search needs) (λ c κs. search needs) (λ c. search needs) returns)

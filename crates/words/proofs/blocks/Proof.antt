@@ -16,8 +16,5 @@ product-fits a d h l = record { fits = lt-of-le-of-lt (mul-le-mul h l) (lit< tt)
 mul-result : tie.Need-mul-result
 mul-result c = product-fits _ _ (omega arith) (omega arith)
 
-returns : tie.Need-returns
-returns c = refl
-
 pub blocks-spec : {M : Type 1} → statement M
-blocks-spec = tie.close (tie.spec mul-result returns)
+blocks-spec = tie.close (tie.spec mul-result (λ c. refl))

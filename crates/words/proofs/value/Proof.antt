@@ -7,9 +7,10 @@ use native.Mathlib.Omega.{arith}
 use lib.Dec.{lit<, lit≤}
 use lib.IntN.{ℤ, pos, _+ℤ_, natAbs}
 use mir.Syntax.{w32}
-use mir.Val.{SFits, ofZ, toZ}
-use mir.ValLaws.{toZ-pos, toZ-ofZ}
+use mir.Val.{SFits, toZ}
+use mir.ValLaws.{toZ-pos}
 use borrow.Author.Needs.{needs}
+use Rattle.integers.proofs.Signed.{in32, read-i32}
 use Rattle.integers.proofs.Magnitudes.{natAbs-add, small-fits}
 use Rattle.words.specs.Word.{payloads, payload}
 use Rattle.words.proofs.Packing.{payload-below, value-low, value-high}
@@ -24,17 +25,11 @@ module _ (p : ℕ) (h : p < payloads) where
   sum-fits : (z : ℤ) → natAbs z ≤ payloads → SFits w32 (toZ w32 p +ℤ z)
   sum-fits z l = rw read (small-fits w32 (pos p +ℤ z) (lt-of-le-of-lt (natAbs-add (pos p) z) (omega arith)))
 
-  sum-read : (z : ℤ) → natAbs z ≤ payloads → toZ w32 (ofZ w32 (toZ w32 p +ℤ z)) ≡ pos p +ℤ z
-  sum-read z l = toZ-ofZ w32 (toZ w32 p +ℤ z) (sum-fits z l) ∙ ap (λ x. x +ℤ z) read
-
-cast-result : tie.Need-cast-result
-cast-result c = search needs
+  sum-read : (z : ℤ) → natAbs z ≤ payloads → in32 (toZ w32 p +ℤ z) ≡ pos p +ℤ z
+  sum-read z l = read-i32 (toZ w32 p +ℤ z) (sum-fits z l) ∙ ap (λ x. x +ℤ z) read
 
 returns : tie.Need-returns
 returns c = let w = c .before .args .w in read (payload w) (payload-below w) ∙ sym (value-low (payload w) (omega arith))
-
-cast-result-2 : tie.Need-cast-result-2
-cast-result-2 c = search needs
 
 sub-result : tie.Need-sub-result
 sub-result c = let w = c .before .args .w in sum-fits (payload w) (payload-below w) _ (lit≤ tt)
@@ -45,4 +40,4 @@ returns-2 c =
     sum-read (payload w) (payload-below w) _ (lit≤ tt) ∙ sym (value-high (payload w) (omega arith))
 
 pub value-spec : {M : Type 1} → statement M
-value-spec = tie.close (tie.spec cast-result returns cast-result-2 sub-result returns-2)
+value-spec = tie.close (tie.spec (λ c. search needs) returns (λ c. search needs) sub-result returns-2)

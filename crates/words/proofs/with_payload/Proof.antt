@@ -10,8 +10,5 @@ mul-result c = record { fits = omega arith }
 add-result : tie.Need-add-result
 add-result c = record { fits = omega arith }
 
-returns : tie.Need-returns
-returns c = omega arith
-
 pub with-payload-spec : {M : Type 1} → statement M
-with-payload-spec = tie.close (tie.spec mul-result add-result returns)
+with-payload-spec = tie.close (tie.spec mul-result add-result (λ c. omega arith))

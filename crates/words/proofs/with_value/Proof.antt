@@ -1,62 +1,42 @@
 -- `with_value` meets its contract: a value that is not negative is its own payload, and another is brought up by 2^28.
 -- Assumes nothing.
-use mathlib.Core.Path.{_≡_, refl, sym, ap, subst, _∙_}
-use mathlib.Core.Bool.{true, false}
-use Prim.Native.Nat.{ℕ, suc, _-_, _≤_, _<_}
-use native.Mathlib.Nat.{not-suc-le-zero, lt-trans}
+use mathlib.Core.Path.{_≡_, sym, ap, _∙_}
+use mathlib.Core.Bool.{true}
+use Prim.Native.Nat.{ℕ, _-_, _≤_, _<_}
+use native.Mathlib.Nat.{lt-trans}
 use native.Mathlib.Omega.{arith}
 use lib.Dec.{T, lit<, lit≤}
-use lib.IntN.{ℤ, pos, negsuc, _+ℤ_, natAbs}
+use lib.IntN.{ℤ, pos, _+ℤ_, natAbs}
 use lib.Signed.{ltZ, nonNeg}
 use mir.Syntax.{w32}
-use mir.Val.{Fits, SFits, ofZ, toZ}
-use borrow.Author.Tests.{ltb-true, le-ltb}
-use Rattle.integers.proofs.Signed.{kept}
-use Rattle.words.specs.Word.{payloads, word, value-limit, payload-of}
+use mir.Val.{Fits, SFits}
+use Rattle.integers.proofs.Signed.{in32, kept}
+use Rattle.words.specs.Word.{payloads, word, value-limit}
+use Rattle.words.proofs.Packing.{payload-of-negative, payload-of-other, negative-above, negative-plus, not-negative}
 use Rattle.words.proofs.with_value.Statement.{statement}
 use Rattle.words.proofs.with_value.Tie as tie
 
-payload-of-negative : (z : ℤ) → ltZ z (pos 0) ≡ true → payload-of z ≡ payloads - natAbs z
-unfolding payload-of
-payload-of-negative z e = rw e refl
-
-payload-of-other : (z : ℤ) → ltZ z (pos 0) ≡ false → payload-of z ≡ natAbs z
-unfolding payload-of
-payload-of-other z e = rw e refl
-
-not-zero : (z : ℤ) → ltZ z (pos 0) ≡ true → 0 < natAbs z
-not-zero (pos m) e = absurd (not-suc-le-zero (ltb-true m 0 e))
-not-zero (negsuc m) e = omega arith
-
-sum-of-negative : (z : ℤ) (n : ℕ) → ltZ z (pos 0) ≡ true → natAbs z ≤ n → z +ℤ pos n ≡ pos (n - natAbs z)
-sum-of-negative (pos m) n e h = absurd (not-suc-le-zero (ltb-true m 0 e))
-sum-of-negative (negsuc m) n e h = rw (le-ltb n (suc m) h) refl
-
-not-negative : (z : ℤ) → ltZ z (pos 0) ≡ false → T (nonNeg z)
-not-negative (pos m) e = tt
-not-negative (negsuc m) e = subst T e tt
-
 -- z as it is read
 module _ (z : ℤ) (h : natAbs z < value-limit) where
-  read : toZ w32 (ofZ w32 z) ≡ z
+  read : in32 z ≡ z
   read = kept w32 z (lt-trans h (lit< tt))
 
   -- a negative z, and the number n that is added to it
-  module _ (e : ltZ (toZ w32 (ofZ w32 z)) (pos 0) ≡ true) (n : ℕ) (l : value-limit ≤ n) (u : n ≤ payloads) where
-    sum : toZ w32 (ofZ w32 z) +ℤ pos n ≡ pos (n - natAbs z)
-    sum = rw read (sum-of-negative z n (rw read at e) (omega arith))
+  module _ (e : ltZ (in32 z) (pos 0) ≡ true) (n : ℕ) (l : value-limit ≤ n) (u : n ≤ payloads) where
+    sum : in32 z +ℤ pos n ≡ pos (n - natAbs z)
+    sum = rw read (negative-plus z n (rw read at e) (omega arith))
 
-    sum-fits : SFits w32 (toZ w32 (ofZ w32 z) +ℤ pos n)
+    sum-fits : SFits w32 (in32 z +ℤ pos n)
     sum-fits = rw sum (record { sfits = omega arith })
 
-    sum-read : toZ w32 (ofZ w32 (toZ w32 (ofZ w32 z) +ℤ pos n)) ≡ pos (n - natAbs z)
+    sum-read : in32 (in32 z +ℤ pos n) ≡ pos (n - natAbs z)
     sum-read = rw sum (kept w32 (pos (n - natAbs z)) (omega arith))
 
-    sum-cast : T (nonNeg (toZ w32 (ofZ w32 (toZ w32 (ofZ w32 z) +ℤ pos n)))) × Fits w32 (natAbs (toZ w32 (ofZ w32 (toZ w32 (ofZ w32 z) +ℤ pos n))))
+    sum-cast : T (nonNeg (in32 (in32 z +ℤ pos n))) × Fits w32 (natAbs (in32 (in32 z +ℤ pos n)))
     sum-cast = rw sum-read (tt, record { fits = omega arith })
 
-    sum-below : natAbs (toZ w32 (ofZ w32 (toZ w32 (ofZ w32 z) +ℤ pos n))) < payloads
-    sum-below = rw sum-read (omega (arith, not-zero z (rw read at e)))
+    sum-below : natAbs (in32 (in32 z +ℤ pos n)) < payloads
+    sum-below = rw sum-read (omega (arith, negative-above z (rw read at e)))
 
 add-with-payload : tie.Need-add-with-payload
 add-with-payload c = sum-fits (c .before .args .z) (c .before .pre .1) (c .if1 .taken) _ (lit≤ tt) (lit≤ tt)

@@ -1,0 +1,63 @@
+-- A block's elements, as they stand in a buffer; and that they are an accepted set.
+-- Assumes nothing.
+use mathlib.Core.Path.{_≡_, sym, _∙_}
+use mathlib.Core.List.{List}
+use Prim.Native.Nat.{ℕ, suc, _+_, _-_, _*_, _/_, _%_, _≤_, _<_}
+use native.Mathlib.Omega.{arith}
+use lib.IntN.{ℤ, pos}
+use lib.ListN.{length, getD}
+use Rattle.integers.specs.Table.{table}
+use Rattle.integers.proofs.Tables.{is-table, getD-table, length-table}
+use Rattle.limits.specs.Limits.{places-in, components-in, sample-limit, magnitudes-limit-in}
+use Rattle.limits.proofs.Range.{in-range-small}
+use Rattle.ring.specs.Element.{component, integer, magnitudes}
+use Rattle.ring.proofs.Components.{Eight, by-components, eight-only}
+use Rattle.dct.specs.Transform.{element, Bounded}
+use Rattle.dct.proofs.Factors.{eight-element, eight-step}
+use Rattle.dct.proofs.Bound.{bound}
+use Rattle.elements.specs.Buffer.{element-at}
+use Rattle.element_sets.specs.Sets.{sample, AllInRange, elements-of, frequencies, AcceptedSet}
+
+module _ (d : ℕ) (x : List ℤ) where
+  pub length-elements : length (elements-of d x) ≡ components-in d
+  unfolding elements-of
+  length-elements = length-table (components-in d) (λ i. component (element d (sample x) (i / 8)) (i % 8))
+
+  -- component k of element p stands at index 8p + k
+  pub component-of : (p k : ℕ) → p < places-in d → k < 8 → getD (elements-of d x) (8 * p + k) (pos 0) ≡ component (element d (sample x) p) k
+  unfolding elements-of
+  component-of p k h l =
+      let q : (8 * p + k) / 8 ≡ p = omega arith in
+      let r : (8 * p + k) % 8 ≡ k = omega arith in
+      getD-table (components-in d) (λ i. component (element d (sample x) (i / 8)) (i % 8)) (pos 0) (8 * p + k) (omega arith) ∙ rw (q, r)
+
+  -- element p of the buffer is the block's
+  pub element-of : (p : ℕ) → p < places-in d → element-at (elements-of d x) p ≡ element d (sample x) p
+  unfolding element-at
+  element-of p h =
+      is-table (pos 0) (table 8 at) 8 (component (element d (sample x) p)) (length-table 8 at) (λ k l. getD-table 8 at (pos 0) k l ∙ component-of p k h l)
+      ∙ sym (by-components (eight-element d (sample x) p))
+    where
+      at : ℕ → ℤ
+      at k = getD (elements-of d x) (8 * p + k) (pos 0)
+
+-- the samples of a column
+abbrev pub column : List ℤ → ℕ → ℕ → ℤ
+column x j i = sample x (8 * i + j)
+
+pub eight-frequencies : (x : List ℤ) (j u : ℕ) → Eight (frequencies x j u)
+eight-frequencies x j u = eight-step (λ i. integer (column x j i)) (λ i h. eight-only (column x j i) 0) u
+
+pub samples-small : {d : ℕ} {x : List ℤ} → AllInRange d x → Bounded d sample-limit (sample x)
+samples-small {d} {x} range q h = in-range-small (sample-limit - 1) (sample x q) (range .at q h)
+
+-- "the magnitudes of an element's eight components sum to at most 262,144"
+pub magnitudes-of : (d : ℕ) (x : List ℤ) → AllInRange (suc d) x → (p : ℕ) → p < places-in (suc d)
+    → magnitudes (element-at (elements-of (suc d) x) p) ≤ magnitudes-limit-in sample-limit (suc d)
+magnitudes-of d x range p h =
+    let less : suc d - 1 ≡ d = omega arith in
+    rw (element-of (suc d) x p h, less) (bound d sample-limit (sample x) (samples-small range) p)
+
+-- a block's set, "the 64 elements that forward writes for a block in range", is an accepted set
+pub block-set : (d : ℕ) (x : List ℤ) → AllInRange (suc d) x → AcceptedSet (places-in (suc d)) (magnitudes-limit-in sample-limit (suc d)) (elements-of (suc d) x)
+block-set d x range = record { size = length-elements (suc d) x; in-limit = magnitudes-of d x range }

@@ -1,0 +1,27 @@
+-- The test of cause 4 as the code makes it, and that the accepted sets are those in which it finds no element.
+-- Assumes nothing.
+use mathlib.Core.Path.{_≡_, refl}
+use mathlib.Core.Bool.{true, false}
+use mathlib.Core.List.{List}
+use Prim.Native.Nat.{ℕ, _*_, _≤_, _<_}
+use lib.IntN.{ℤ}
+use lib.ListN.{length}
+use borrow.Author.Tests.{lt-ltb, le-ltb, ltb-false}
+use Rattle.ring.specs.Element.{magnitudes}
+use Rattle.elements.specs.Buffer.{element-at}
+use Rattle.element_sets.specs.Sets.{above-limit, AcceptedSet}
+
+-- r is the sum that the code finds
+module _ (L : ℕ) (e : List ℤ) (p : ℕ) {r : ℕ} (f : r ≡ magnitudes (element-at e p)) where
+  pub above-yes : L < r → above-limit L e p ≡ true
+  above-yes h = rw (← f) (lt-ltb L r h)
+
+  pub above-no : r ≤ L → above-limit L e p ≡ false
+  above-no h = rw (← f) (le-ltb L r h)
+
+pub none-above : {n L : ℕ} {e : List ℤ} → AcceptedSet n L e → (p : ℕ) → p < n → above-limit L e p ≡ false
+none-above {n} {L} {e} A p h = above-no L e p refl (A .in-limit p h)
+
+-- and a set in which none is above is accepted
+pub passed : {n L : ℕ} {e : List ℤ} → length e ≡ 8 * n → ((p : ℕ) → p < n → above-limit L e p ≡ false) → AcceptedSet n L e
+passed {n} {L} l none = record { size = l; in-limit = λ p h. ltb-false L _ (none p h) }

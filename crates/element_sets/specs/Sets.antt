@@ -1,0 +1,42 @@
+-- Sets of elements in a buffer (01, "Elements" and "Rounding at a width"): those of a block of d dimensions, and the accepted sets.
+use mathlib.Core.Path.{_≡_}
+use mathlib.Core.Bool.{Bool, true}
+use mathlib.Core.List.{List}
+use Prim.Native.Nat.{ℕ, _+_, _*_, _/_, _%_, _≤_, _<_}
+use lib.Dec.{ltb}
+use lib.IntN.{ℤ, pos}
+use lib.ListN.{length, getD}
+use Rattle.integers.specs.Table.{table}
+use Rattle.limits.specs.Limits.{places-in, components-in, in-range}
+use Rattle.ring.specs.Element.{component, integer, magnitudes}
+use Rattle.dct.specs.Transform.{element, step}
+use Rattle.elements.specs.Buffer.{element-at}
+
+-- blocks
+
+-- sample q of a buffer; sample (i,j) of a block of two dimensions has the index 8i+j
+abbrev pub sample : List ℤ → ℕ → ℤ
+sample x q = getD x q (pos 0)
+
+-- every sample of a block is in range
+pub record AllInRange (d : ℕ) (x : List ℤ) : Type 0 where
+  pub at : (i : ℕ) → i < places-in d → in-range (sample x i) ≡ true
+
+-- the components of a block's exact elements, element after element, component 0 first
+unfoldable pub elements-of : ℕ → List ℤ → List ℤ
+elements-of d x = table (components-in d) (λ i. component (element d (sample x) (i / 8)) (i % 8))
+
+-- what the 8-point step makes of column j of a block of two dimensions, for each frequency
+abbrev pub frequencies : List ℤ → ℕ → ℕ → List ℤ
+frequencies x j = step (λ i. integer (sample x (8 * i + j)))
+
+-- accepted sets: n elements, none of whose magnitudes sum above the limit L
+
+-- cause 4 at the element of number p: its magnitudes sum above the limit
+abbrev pub above-limit : ℕ → List ℤ → ℕ → Bool
+above-limit L e p = ltb L (magnitudes (element-at e p))
+
+-- "An accepted set is 512 numbers in which no element's magnitudes sum above what number 4 below allows"
+pub record AcceptedSet (n L : ℕ) (e : List ℤ) : Type 0 where
+  pub size : length e ≡ 8 * n
+  pub in-limit : (p : ℕ) → p < n → magnitudes (element-at e p) ≤ L

@@ -1,3 +1,0 @@
--- The starred films hold.
-pub mod Constant
-pub mod Films

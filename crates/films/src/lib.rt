@@ -1,1 +1,0 @@
-// 01's starred films as one table over the definitions, in specs/, and the proof that each holds, in proofs/; no code.

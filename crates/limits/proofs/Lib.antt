@@ -1,0 +1,3 @@
+-- The figures of the limits, and the laws of ranges.
+pub mod Figures
+pub mod Range

@@ -1,0 +1,61 @@
+-- The limits of 01 ("Sheets", "Rounding at a width", "Why a set or sheet is turned back"), as functions of the number of dimensions d of a block
+-- and of the sample limit S. This is the one place of each number; the constants of the code stand in src/.
+use mathlib.Core.Bool.{Bool, _&&_}
+use Prim.Native.Nat.{ℕ, _+_, _-_, _*_, _/_, _^_}
+use lib.IntN.{ℤ, pos, negℤ}
+use lib.Signed.{leZ, ltZ}
+
+-- the places of a block, each of a sample, an element and a coefficient
+abbrev pub places-in : ℕ → ℕ
+places-in d = 8 ^ d
+
+-- the components of all its elements
+abbrev pub components-in : ℕ → ℕ
+components-in d = 8 * places-in d
+
+-- the largest sum of the magnitudes of an element's components, which a block's elements do not exceed (`bound` of `dct`)
+abbrev pub magnitudes-limit-in : ℕ → ℕ → ℕ
+magnitudes-limit-in S d = S * (8 * 16 ^ (d - 1))
+
+-- a coefficient in eighths is the element divided by 2^h: an element is 4^d times the DCT value, and a coefficient 8 times, for d from 2 on
+abbrev pub halvings-in : ℕ → ℕ
+halvings-in d = 2 * d - 3
+
+-- the E of demand 3's distance, 1/2 + E/2^b: each table number is off by at most a half, so that N is by at most half of the magnitudes
+abbrev pub distance-numerator-in : ℕ → ℕ → ℕ
+distance-numerator-in S d = magnitudes-limit-in S d / 2 ^ (halvings-in d + 1)
+
+-- x lies in -S to S - 1
+abbrev pub in-signed-range : ℕ → ℤ → Bool
+in-signed-range S x = leZ (negℤ (pos S)) x && ltZ x (pos S)
+
+-- what is in force
+
+-- the largest magnitude of a sample, which lies in -2048 to 2047
+abbrev pub sample-limit : ℕ
+sample-limit = 2048
+
+-- a sample is in range
+abbrev pub in-range : ℤ → Bool
+in-range x = in-signed-range sample-limit x
+
+-- blocks of 8 by 8: 64 places, 512 components, magnitudes that sum to at most 262,144, half of an element, a distance of 1/2 + 65,536/2^b
+
+abbrev pub places : ℕ
+places = places-in 2
+
+abbrev pub components-size : ℕ
+components-size = components-in 2
+
+abbrev pub magnitudes-limit : ℕ
+magnitudes-limit = magnitudes-limit-in sample-limit 2
+
+abbrev pub halvings : ℕ
+halvings = halvings-in 2
+
+abbrev pub distance-numerator : ℕ
+distance-numerator = distance-numerator-in sample-limit 2
+
+-- the largest number of blocks of a sheet
+abbrev pub blocks-limit : ℕ
+blocks-limit = 128

@@ -1,0 +1,3 @@
+-- The worked examples that 01 stars hold.
+pub mod Constant
+pub mod Examples

@@ -1,0 +1,122 @@
+/* How much stack the functions of the library take: each runs on a thread whose stack is painted, and as far as the paint is gone it was used.
+ * Called with the limit, in KB; fails where a function takes more. */
+#define _POSIX_C_SOURCE 200809L
+#include "weld_dct.h"
+#include "sheet_cases.h"
+#include <pthread.h>
+#include <stdio.h>
+#include <stdlib.h>
+#include <string.h>
+
+enum { STACK = 1 << 20, MOST_CALLS = 16 };
+
+static _Alignas(4096) unsigned char stack[STACK];
+static const unsigned char *top;     /* where the stack stood before the calls of a job */
+static uint32_t numbers[MOST_CALLS]; /* what they answered */
+static int calls;
+
+static int32_t blocks[PATTERNS][BLOCK], bad_block[BLOCK];
+static int32_t sets[PATTERNS][SET], any_set[SET], bad_set[SET]; /* the blocks' sets, an accepted one that no block has, one that is not accepted */
+static Sheet small, large, bad_sheet;
+static int32_t elements[SET], samples[BLOCK], coefficients[BLOCK], scratch[SET];
+static uint32_t output[ROOM];
+
+static void answered(struct weld_dct_answer answer) { numbers[calls++] = answer.number; }
+
+static void call_forward(void) {
+    for (int n = 0; n < PATTERNS; n++) answered(weld_dct_forward(blocks[n], BLOCK, elements, SET));
+    answered(weld_dct_forward(bad_block, BLOCK, elements, SET));
+}
+
+static void call_back(void) {
+    for (int n = 0; n < PATTERNS; n++) answered(weld_dct_back(sets[n], SET, samples, BLOCK));
+    answered(weld_dct_back(any_set, SET, samples, BLOCK));
+    answered(weld_dct_back(bad_set, SET, samples, BLOCK));
+}
+
+static void call_round(void) {
+    for (int w = 0; w < WIDTHS; w++) {
+        answered(weld_dct_round(sets[SMOOTH], SET, widths[w], coefficients, BLOCK));
+        answered(weld_dct_round(any_set, SET, widths[w], coefficients, BLOCK));
+    }
+    answered(weld_dct_round(bad_set, SET, widths[0], coefficients, BLOCK));
+}
+
+static void call_sheet(void) {
+    for (int w = 0; w < WIDTHS; w++) {
+        answered(weld_dct_sheet(small.words, small.count, widths[w], scratch, SET, output, ROOM));
+        answered(weld_dct_sheet(large.words, large.count, widths[w], scratch, SET, output, ROOM));
+    }
+    answered(weld_dct_sheet(bad_sheet.words, bad_sheet.count, widths[0], scratch, SET, output, ROOM));
+}
+
+static const struct {
+    const char *name;
+    void (*call)(void);
+    uint32_t refusals[2]; /* of the last calls; those before are accepted */
+    int refused;
+} jobs[] = {
+    {"forward", call_forward, {BAD_SAMPLE}, 1},
+    {"back", call_back, {NO_BLOCK, BAD_MAGNITUDES}, 2},
+    {"round", call_round, {BAD_MAGNITUDES}, 1},
+    {"sheet", call_sheet, {BAD_END}, 1},
+};
+
+static void *run(void *n) {
+    top = __builtin_frame_address(0);
+    jobs[*(const size_t *)n].call();
+    return NULL;
+}
+
+/* The bytes that the calls of job n take, on a stack of this paint. */
+static size_t taken(size_t n, unsigned char paint) {
+    pthread_attr_t attributes;
+    pthread_t thread;
+    size_t lowest = 0;
+    memset(stack, paint, STACK);
+    calls = 0;
+    expect(pthread_attr_init(&attributes) == 0 && pthread_attr_setstack(&attributes, stack, STACK) == 0
+               && pthread_create(&thread, &attributes, run, &n) == 0 && pthread_join(thread, NULL) == 0,
+           "no thread on a painted stack");
+    pthread_attr_destroy(&attributes);
+    for (int k = 0; k < calls; k++) {
+        int last = k - (calls - jobs[n].refused);
+        expect(numbers[k] == (last < 0 ? (uint32_t)ACCEPTED : jobs[n].refusals[last]), "call %d answers %u", k, (unsigned)numbers[k]);
+    }
+    while (lowest < STACK && stack[lowest] == paint) lowest++;
+    expect(lowest > 0 && stack + lowest < top, "the stack is used up, or not used at all");
+    return (size_t)(top - (stack + lowest));
+}
+
+static void prepare(void) {
+    for (int n = 0; n < PATTERNS; n++) {
+        make_samples(blocks[n], 1, 1, (enum pattern)n);
+        second_forward(blocks[n], BLOCK, sets[n], SET);
+    }
+    memcpy(bad_block, blocks[ANY], sizeof bad_block);
+    bad_block[BLOCK - 1] = HIGHEST + 1;
+    for (int n = 0; n < SET; n++) any_set[n] = any(-MOST_MAGNITUDES / 8, MOST_MAGNITUDES / 8);
+    memcpy(bad_set, any_set, sizeof bad_set);
+    bad_set[SET - 1] = MOST_MAGNITUDES + 1;
+    make_sheet(&small, 1, 1, ANY);
+    make_sheet(&large, 4, MOST_BLOCKS / 4, SMOOTH);
+    bad_sheet = small;
+    bad_sheet.words[bad_sheet.count - 1]++;
+}
+
+int main(int count, char **words) {
+    start("stack");
+    expect(count == 2, "it is called with the limit, in KB");
+    size_t limit = 1024 * (size_t)atoi(words[1]);
+    prepare();
+    char line[200] = "";
+    for (size_t n = 0; n < COUNT(jobs); n++) {
+        begin("%s", jobs[n].name);
+        jobs[n].call(); /* so that the functions of the C library are found, which takes stack itself */
+        size_t first = taken(n, 0xA5), second = taken(n, 0x5A), most = first < second ? second : first;
+        expect(most <= limit, "%zu bytes of stack are taken, and no more than %zu are promised", most, limit);
+        snprintf(line + strlen(line), sizeof line - strlen(line), "%s%s %zu", n ? ", " : "", jobs[n].name, most);
+    }
+    printf("stack: bytes taken by %s; no more than %zu\n", line, limit);
+    return 0;
+}
