@@ -35,15 +35,20 @@ extern "C" {
 /* The widths b at which coefficients are rounded, as an initialiser. */
 #define WELD_DCT_WIDTHS {11, 20, 26}
 
+/* How many orientations a block has. They are 0 to 7: 0 changes nothing, 1 mirrors left and right, 2 top and bottom, 3 both; 4 to 7 first
+ * swap rows with columns, then do as 0 to 3. */
+#define WELD_DCT_ORIENTATIONS 8
+
 /* The most blocks that a sheet has, and the words of a sheet of so many blocks: a head, 64 for each block, and an end word. */
 #define WELD_DCT_BLOCKS_LIMIT 128
 #define WELD_DCT_SHEET_WORDS(blocks) (2 + WELD_DCT_PLACES * (size_t)(blocks))
 
 /* What an answer's number says, and what its place is. */
 enum {
-    WELD_DCT_ACCEPTED = 0,           /* the work is done; place: of a sheet the words written, otherwise 0 */
-    WELD_DCT_REFUSED_LENGTHS = 1,    /* samples or coefficients are not 64, elements or scratch not 512, or a sheet's output is shorter than
-                                        the sheet; place 0 */
+    WELD_DCT_ACCEPTED = 0,           /* the work is done; place: of a sheet the words written, of two orientations the composed one,
+                                        otherwise 0 */
+    WELD_DCT_REFUSED_LENGTHS = 1,    /* samples or coefficients are not 64, elements, read or written, or scratch not 512, or a sheet's
+                                        output is shorter than the sheet; place 0 */
     WELD_DCT_REFUSED_SAMPLE = 2,     /* a sample is out of range; place: its index, in a sheet the word's */
     WELD_DCT_REFUSED_WIDTH = 3,      /* b is not 11, 20 or 26; place 0 */
     WELD_DCT_REFUSED_MAGNITUDES = 4, /* an element's magnitudes sum above the limit; place: its number 8u+v */
@@ -51,7 +56,8 @@ enum {
     WELD_DCT_REFUSED_HEAD = 6,       /* a sheet has no words, or its first is not of kind 1, or its sizes are not allowed; place 0 */
     WELD_DCT_REFUSED_WORDS = 7,      /* a sheet has a wrong count of words; place: the count. Or a word is of another kind than its place
                                         needs; place: its index, which is below the count */
-    WELD_DCT_REFUSED_END = 8         /* the end word does not hold the number of blocks; place: its index */
+    WELD_DCT_REFUSED_END = 8,        /* the end word does not hold the number of blocks; place: its index */
+    WELD_DCT_REFUSED_ORIENTATION = 9 /* an orientation is above 7; place 0 */
 };
 
 /* Where more than one sample, element or word has a fault, the place is the lowest. */
@@ -83,6 +89,22 @@ struct weld_dct_answer weld_dct_back(const int32_t *elements, size_t n, int32_t 
  * of the element's exact value.
  * Refuses, in this order: WELD_DCT_REFUSED_LENGTHS, n not 512 or m not 64; WELD_DCT_REFUSED_WIDTH; WELD_DCT_REFUSED_MAGNITUDES. */
 struct weld_dct_answer weld_dct_round(const int32_t *elements, size_t n, uint32_t b, int32_t *coefficients, size_t m);
+
+/* Reorient: 64 exact elements in another orientation, without going back to samples.
+ *
+ * elements: 512 numbers, laid out as forward writes them, a block's or others within the limit. output: exactly 512, laid out likewise.
+ * Where the elements are a block's, those of the reoriented block are written. Of any set, the same elements are written, each at its place
+ * and with its sign: the swap exchanges those of (u,v) and (v,u); then mirroring left and right negates those where v is odd, and top and
+ * bottom those where u is odd. No magnitude changes, so that what is written is within the limit again.
+ * Refuses, in this order: WELD_DCT_REFUSED_LENGTHS, n or m not 512; WELD_DCT_REFUSED_ORIENTATION; WELD_DCT_REFUSED_MAGNITUDES. */
+struct weld_dct_answer weld_dct_reorient(const int32_t *elements, size_t n, uint32_t orientation, int32_t *output, size_t m);
+
+/* Compose orientations: the one orientation that equals the first followed by the second.
+ *
+ * An accepted call answers 0, and the orientation as the place. For all elements within the limit, to reorient by the first and then by the
+ * second gives the same 512 numbers as to reorient by this one.
+ * Refuses: WELD_DCT_REFUSED_ORIENTATION, one of the two is above 7. */
+struct weld_dct_answer weld_dct_compose_orientations(uint32_t first, uint32_t second);
 
 /* Sheet: a sheet of sample words to a sheet of coefficient words, at the width b.
  *

@@ -7,7 +7,6 @@
 #include <string.h>
 
 enum { FORWARD, BACK, ROUND, JOBS };
-enum { LENGTHS = 9 };
 
 static const char *const jobs[JOBS] = {"forward", "back", "round"};
 static int answered[JOBS][ANSWERS];
@@ -250,16 +249,6 @@ static void single_components(void) {
     }
 }
 
-/* one element's numbers, with magnitudes that sum to the total, shared out at random */
-static void share_out(int32_t *u, int32_t total) {
-    int32_t shift = any(0, 7), whole = any(0, 1);
-    for (int k = 0; k < 8; k++) {
-        int32_t part = k == 7 || whole ? total : any(0, total);
-        u[(k + shift) % 8] = any(0, 1) ? part : -part;
-        total -= part;
-    }
-}
-
 /* sets that are no block's, with every element at the limit; and one element above it by one */
 static void sets_at_the_limit(void) {
     int32_t set[SET];
@@ -315,12 +304,6 @@ static void halves(void) {
 
 /* Refusals. */
 
-/* Lengths: none, one, about the right one, right again in 8 or 16 bits, and far longer. */
-static void make_lengths(size_t full, size_t *lengths) {
-    size_t all[LENGTHS] = {0, 1, full - 1, full, full + 1, full + 256, 4096, full + 65536, LONGEST};
-    memcpy(lengths, all, sizeof all);
-}
-
 /* every pair of lengths, with contents that are refused for other causes: length comes first */
 static void forward_lengths(void) {
     static const int faults[][2] = {{-1, -1}, {0, 0}, {0, 63}, {62, 62}, {17, 40}};
@@ -338,31 +321,19 @@ static void forward_lengths(void) {
     }
 }
 
-/* sets with causes of their own: none, no block's, above the limit at one place or at two */
-enum { SETS = 5 };
-static void make_faulty_set(int32_t *set, int n) {
-    int32_t samples[BLOCK];
-    make_samples(samples, 1, 1, SMOOTH);
-    make_set(samples, set);
-    if (n == 1) set[64] += 1;
-    if (n == 2) set[8 * 62] = MOST_MAGNITUDES + 1;
-    if (n > 2) set[1] = set[300] = INT32_MIN;
-    if (n > 3) set[256] += 1;
-}
-
 static void back_and_round_lengths(void) {
     static const uint32_t bs[] = {11, 20, 26, 0, 12, UINT32_MAX};
     size_t of_block[LENGTHS], of_set[LENGTHS];
     int32_t set[SET];
     make_lengths(BLOCK, of_block);
     make_lengths(SET, of_set);
-    for (size_t n = 0; n < LENGTHS * LENGTHS * SETS; n++) {
-        size_t i = of_set[n / SETS % LENGTHS], j = of_block[n / SETS / LENGTHS];
-        make_faulty_set(set, n % SETS);
-        begin("lengths %zu and %zu, faulty set %d", i, j, (int)n % SETS);
+    for (size_t n = 0; n < LENGTHS * LENGTHS * FAULTY_SETS; n++) {
+        size_t i = of_set[n / FAULTY_SETS % LENGTHS], j = of_block[n / FAULTY_SETS / LENGTHS];
+        make_faulty_set(set, n % FAULTY_SETS);
+        begin("lengths %zu and %zu, faulty set %d", i, j, (int)n % FAULTY_SETS);
         check_back(set, i, j);
         for (size_t m = 0; m < COUNT(bs); m++) {
-            begin("lengths %zu and %zu, faulty set %d, b = %u", i, j, (int)n % SETS, (unsigned)bs[m]);
+            begin("lengths %zu and %zu, faulty set %d, b = %u", i, j, (int)n % FAULTY_SETS, (unsigned)bs[m]);
             check_round(set, i, bs[m], j);
         }
     }
@@ -398,18 +369,13 @@ static void samples_out_of_range(void) {
     }
 }
 
-/* an element above the limit at each place, alone and with others behind it; among them are sums that are small again in 32 bits */
+/* an element above the limit at each place: the lowest number is named */
 static void magnitudes_above_the_limit(void) {
-    static const int32_t above[][8] = {{262145}, {-262145}, {32768, 32768, -32768, 32768, 32768, -32768, 32768, 32769},
-        {0, 131072, 0, 0, 0, 0, 1, -131072}, {0, 0, 0, 0, 0, 0, 0, INT32_MIN}, {INT32_MIN, 1, 1, 1, 1, 1, 1, 1}, {INT32_MIN, INT32_MIN},
-        {INT32_MAX, INT32_MAX, 2}, {1 << 30, 1 << 30, 1 << 30, 1 << 30}};
     int32_t set[SET];
-    for (size_t n = 0; n < COUNT(above) * 3 * BLOCK; n++) {
-        size_t p = n % BLOCK, others = n / BLOCK % 3;
-        make_faulty_set(set, (int)others % 2);
-        for (size_t k = 0; k < 8; k++) set[8 * p + k] = above[n / BLOCK / 3][k];
-        for (; others > 0; others--) set[any((int32_t)(8 * p), SET - 1) / 8 * 8] = INT32_MIN;
-        begin("element %zu is above the limit, as %zu", p, n / BLOCK / 3);
+    for (int n = 0; n < SETS_ABOVE; n++) {
+        size_t p = (size_t)n % BLOCK;
+        make_set_above(set, n);
+        begin("element %zu is above the limit, set %d", p, n);
         Answer answer = check_back(set, SET, BLOCK), rounded = check_round(set, SET, widths[n % WIDTHS], BLOCK);
         expect(answer.number == BAD_MAGNITUDES && answer.place == p && rounded.place == p, "the second program has another answer");
     }
@@ -418,10 +384,10 @@ static void magnitudes_above_the_limit(void) {
 /* every b that is no width, of sets that are accepted and of others: the width comes first */
 static void no_widths(void) {
     int32_t set[SET];
-    for (int n = 0; n < NO_WIDTHS * SETS; n++) {
-        make_faulty_set(set, n % SETS);
-        begin("b = %u, faulty set %d", (unsigned)no_width(n / SETS), n % SETS);
-        expect(round_number(set, no_width(n / SETS)) == BAD_WIDTH, "the second program has another answer");
+    for (int n = 0; n < NO_WIDTHS * FAULTY_SETS; n++) {
+        make_faulty_set(set, n % FAULTY_SETS);
+        begin("b = %u, faulty set %d", (unsigned)no_width(n / FAULTY_SETS), n % FAULTY_SETS);
+        expect(round_number(set, no_width(n / FAULTY_SETS)) == BAD_WIDTH, "the second program has another answer");
     }
 }
 

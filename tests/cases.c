@@ -41,7 +41,7 @@ void expect_answer(const char *job, Answer wanted, uint32_t number, size_t place
 void start(const char *test) {
     test_name = test;
     begin("start");
-    expect(make_second(), "a table number is not 01's");
+    expect(make_second(), "a table of the second program breaks its rule");
     state = seed;
     for (size_t n = 0; n < COUNT(pool); n++) pool[n] = any(INT32_MIN, INT32_MAX);
 }
@@ -92,6 +92,39 @@ void make_extreme(int32_t *samples, int p, int lowest) {
     for (int q = 0; q < BLOCK; q++) samples[q] = (T81_factor(p, q) > 0) != lowest ? HIGHEST : LOWEST;
 }
 
+/* Sets of elements. */
+
+void share_out(int32_t *u, int32_t total) {
+    int32_t shift = any(0, 7), whole = any(0, 1);
+    for (int k = 0; k < 8; k++) {
+        int32_t part = k == 7 || whole ? total : any(0, total);
+        u[(k + shift) % 8] = any(0, 1) ? part : -part;
+        total -= part;
+    }
+}
+
+void make_faulty_set(int32_t *set, int n) {
+    int32_t samples[BLOCK];
+    make_samples(samples, 1, 1, SMOOTH);
+    second_forward(samples, BLOCK, set, SET);
+    if (n == 1) set[64] += 1;
+    if (n == 2) set[8 * 62] = MOST_MAGNITUDES + 1;
+    if (n > 2) set[1] = set[300] = INT32_MIN;
+    if (n > 3) set[256] += 1;
+}
+
+void make_set_above(int32_t *set, int n) {
+    static const int32_t above[WAYS_ABOVE][8] = {{262145}, {-262145}, {32768, 32768, -32768, 32768, 32768, -32768, 32768, 32769},
+        {0, 131072, 0, 0, 0, 0, 1, -131072}, {0, 0, 0, 0, 0, 0, 0, INT32_MIN}, {INT32_MIN, 1, 1, 1, 1, 1, 1, 1}, {INT32_MIN, INT32_MIN},
+        {INT32_MAX, INT32_MAX, 2}, {1 << 30, 1 << 30, 1 << 30, 1 << 30}};
+    int p = n % BLOCK, others = n / BLOCK % 3;
+    make_faulty_set(set, others % 2);
+    memcpy(set + 8 * p, above[n / BLOCK / 3], sizeof above[0]);
+    for (; others > 0; others--) set[any(8 * p, SET - 1) / 8 * 8] = INT32_MIN;
+}
+
+/* Widths and buffers. */
+
 uint32_t no_width(int n) {
     static const uint32_t large[] = {64 + 11, 64 + 20, 256 + 11, 256 + 26, 65536 + 20, 1u << 31 | 26, 1u << 31, UINT32_MAX - 11, UINT32_MAX};
     static const uint32_t instead[] = {1u << 24 | 11, 1u << 16 | 26, INT32_MAX};
@@ -100,7 +133,10 @@ uint32_t no_width(int n) {
     return n < 64 ? (uint32_t)n : large[n - 64];
 }
 
-/* Buffers. */
+void make_lengths(size_t full, size_t *lengths) {
+    size_t all[LENGTHS] = {0, 1, full - 1, full, full + 1, full + 256, 4096, full + 65536, LONGEST};
+    memcpy(lengths, all, sizeof all);
+}
 
 void fill(Pair *pair, const char *name, const void *numbers, size_t given, size_t length) {
     size_t whole = GUARD + length + GUARD;

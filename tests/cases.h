@@ -1,4 +1,4 @@
-/* What the tests share: the report of a disagreement, numbers at random, samples, and buffers between guard numbers. */
+/* What the tests share: the report of a disagreement, numbers at random, samples, sets of elements, and buffers between guard numbers. */
 #ifndef CASES_H
 #define CASES_H
 
@@ -26,6 +26,18 @@ void make_samples(int32_t *samples, uint32_t a, uint32_t d, enum pattern pattern
 /* The block whose coefficient at p is the highest of all, or the lowest. */
 void make_extreme(int32_t *samples, int p, int lowest);
 
+/* The numbers of one element, with magnitudes that sum to the total, shared out at random. */
+void share_out(int32_t *u, int32_t total);
+
+/* A set with causes of its own, for each n below FAULTY_SETS: none, no block's, above the limit at one place or at two. */
+enum { FAULTY_SETS = 5 };
+void make_faulty_set(int32_t *set, int n);
+
+/* A set whose first element above the limit is n % BLOCK, for each n below SETS_ABOVE: alone and with others behind it; among the sums are some
+ * that are small again in 32 bits. */
+enum { WAYS_ABOVE = 9, SETS_ABOVE = WAYS_ABOVE * 3 * BLOCK };
+void make_set_above(int32_t *set, int n);
+
 /* A b that is no width, for each n below NO_WIDTHS: every such b below 64, and large ones, among them some that are a width in fewer bits. */
 enum { NO_WIDTHS = 73 };
 uint32_t no_width(int n);
@@ -37,6 +49,10 @@ typedef struct {
     size_t length;
     int32_t library[GUARD + LONGEST + GUARD], second[GUARD + LONGEST + GUARD];
 } Pair;
+
+/* Lengths: none, one, about the right one, right again in 8 or 16 bits, and far longer. */
+enum { LENGTHS = 9 };
+void make_lengths(size_t full, size_t *lengths);
 
 /* The first of the given numbers, and numbers at random beyond them. */
 void fill(Pair *pair, const char *name, const void *numbers, size_t given, size_t length);

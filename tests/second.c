@@ -6,11 +6,15 @@
 /* One component of a product of two cosines, and how often it stands there. */
 typedef struct { int component, times; } Term;
 
+/* The place of an element, and the sign with which it is taken. */
+typedef struct { int place, sign; } Source;
+
 const uint32_t widths[WIDTHS] = {11, 20, 26};
-static Term terms[BLOCK][BLOCK][2];       /* t(u,i) × t(v,j), at [8u+v][8i+j]: c_(a+b) and c_(a-b) */
-static long double factors[BLOCK][BLOCK]; /* 1/4 · C(u) · C(v) · cos((2i+1)uπ/16) · cos((2j+1)vπ/16), at [8u+v][8i+j] */
-static long double cosines[8];            /* 1, and c_1 to c_7 */
-static int64_t tables[WIDTHS][8];         /* 2^b, and m_1 to m_7 */
+static Term terms[BLOCK][BLOCK][2];         /* t(u,i) × t(v,j), at [8u+v][8i+j]: c_(a+b) and c_(a-b) */
+static long double factors[BLOCK][BLOCK];   /* 1/4 · C(u) · C(v) · cos((2i+1)uπ/16) · cos((2j+1)vπ/16), at [8u+v][8i+j] */
+static long double cosines[8];              /* 1, and c_1 to c_7 */
+static int64_t tables[WIDTHS][8];           /* 2^b, and m_1 to m_7 */
+static Source sources[ORIENTATIONS][BLOCK]; /* of the element at each place, before the block was reoriented */
 
 /* Cosines. */
 
@@ -48,6 +52,52 @@ static void make_factors(int u, int v, int i, int j) {
     factors[p][q] = C(u) * C(v) * cosl((2 * i + 1) * u * pi / 16) * cosl((2 * j + 1) * v * pi / 16) / 4;
 }
 
+/* Orientations. */
+
+void reorient_samples(const int32_t *samples, uint32_t orientation, int32_t *reoriented) {
+    int32_t swapped[BLOCK];
+    for (int q = 0; q < BLOCK; q++) swapped[q] = samples[orientation < 4 ? q : 8 * (q % 8) + q / 8];
+    for (int q = 0; q < BLOCK; q++) {
+        int i = q / 8, j = q % 8;
+        reoriented[q] = swapped[8 * (orientation & 2 ? 7 - i : i) + (orientation & 1 ? 7 - j : j)];
+    }
+}
+
+/* a block whose samples are the indices that they had before it was reoriented */
+static void make_indices(uint32_t orientation, int32_t *indices) {
+    int32_t all[BLOCK];
+    for (int q = 0; q < BLOCK; q++) all[q] = q;
+    reorient_samples(all, orientation, indices);
+}
+
+/* whether the factor at p of each sample, where it is now, is the one at the source, where it was, with the sign */
+static int is_source(Source source, int p, const int32_t *indices) {
+    int same = 1;
+    for (int q = 0; q < BLOCK && same; q++) same = fabsl(factors[p][q] - source.sign * factors[source.place][indices[q]]) < 1e-12L;
+    return same;
+}
+
+/* The source of each element of a reoriented block: where the factors of all 64 samples agree, so do the elements of every block. False if a place
+ * has not exactly one. */
+static int find_sources(uint32_t orientation) {
+    int32_t indices[BLOCK];
+    int only = 1;
+    make_indices(orientation, indices);
+    for (int p = 0; p < BLOCK; p++) {
+        int found = 0;
+        for (int n = 0; n < 2 * BLOCK; n++) {
+            Source source = {n / 2, n % 2 ? -1 : 1};
+            if (!is_source(source, p, indices)) continue;
+            sources[orientation][p] = source;
+            found++;
+        }
+        only = only && found == 1;
+    }
+    return only;
+}
+
+/* Tables. */
+
 int make_second(void) {
     int follows = 1;
     for (int n = 0; n < BLOCK * BLOCK; n++) make_factors(n / 512, n / 64 % 8, n / 8 % 8, n % 8);
@@ -58,6 +108,7 @@ int make_second(void) {
             int64_t m = tables[w][k] = llroundl(ldexpl(cosines[k], b));
             if (k > 0) follows = follows && below(k, 2 * m - 1, b + 1) && !below(k, 2 * m + 1, b + 1);
         }
+    for (uint32_t orientation = 0; orientation < ORIENTATIONS; orientation++) follows = find_sources(orientation) && follows;
     return follows;
 }
 
@@ -165,6 +216,36 @@ Answer second_round(const int32_t *elements, size_t n, uint32_t b, int32_t *coef
     if (first_above(elements) < BLOCK) return (Answer){BAD_MAGNITUDES, first_above(elements)};
     for (int p = 0; p < BLOCK; p++) coefficients[p] = coefficient(elements + 8 * p, b);
     return (Answer){ACCEPTED, 0};
+}
+
+/* Reoriented sets. */
+
+Answer second_reorient(const int32_t *elements, size_t n, uint32_t orientation, int32_t *output, size_t m) {
+    if (n != SET || m != SET) return (Answer){BAD_LENGTH, 0};
+    if (orientation >= ORIENTATIONS) return (Answer){BAD_ORIENTATION, 0};
+    if (first_above(elements) < BLOCK) return (Answer){BAD_MAGNITUDES, first_above(elements)};
+    for (int k = 0; k < SET; k++) {
+        Source source = sources[orientation][k / 8];
+        output[k] = source.sign * elements[8 * source.place + k % 8];
+    }
+    return (Answer){ACCEPTED, 0};
+}
+
+static int has_indices(uint32_t orientation, const int32_t *indices) {
+    int32_t made[BLOCK];
+    make_indices(orientation, made);
+    return memcmp(made, indices, sizeof made) == 0;
+}
+
+/* the orientation that takes every sample to where the two take it, one after the other */
+Answer second_compose_orientations(uint32_t first, uint32_t second) {
+    int32_t once[BLOCK], twice[BLOCK];
+    uint32_t composed = 0;
+    if (first >= ORIENTATIONS || second >= ORIENTATIONS) return (Answer){BAD_ORIENTATION, 0};
+    make_indices(first, once);
+    reorient_samples(once, second, twice);
+    while (composed < ORIENTATIONS && !has_indices(composed, twice)) composed++;
+    return (Answer){ACCEPTED, composed};
 }
 
 /* Sheets. */

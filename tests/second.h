@@ -1,35 +1,42 @@
-/* The second program: the four jobs as 01 defines them, made from 01 and from T.81's formula (ITU-T T.81, A.3.3) alone. It shares nothing with the
- * library. A job takes buffers of any lengths, leaves in them what the call has to leave there, and returns the answer. */
+/* The second program: the jobs as 01 and 02 define them, made from these and from T.81's formula (ITU-T T.81, A.3.3) alone. It shares nothing with
+ * the library. A job takes buffers of any lengths, leaves in them what the call has to leave there, and returns the answer. */
 #ifndef SECOND_H
 #define SECOND_H
 
 #include <stddef.h>
 #include <stdint.h>
 
-/* 01's numbers. */
+/* 01's numbers, and 02's. */
 enum { BLOCK = 64, SET = 512 };          /* the numbers of a block, and of its 64 elements */
 enum { LOWEST = -2048, HIGHEST = 2047 }; /* samples */
 enum { MOST_MAGNITUDES = 262144, MOST_BLOCKS = 128 };
 enum { SAMPLE_HEAD = 1, SAMPLE = 2, COEFFICIENT = 3, COEFFICIENT_HEAD = 4, END = 15 }; /* kinds of words */
+enum { ORIENTATIONS = 8 };
 enum { WIDTHS = 3 };
 extern const uint32_t widths[WIDTHS];
 
-/* 01's causes, by their numbers. */
-enum { ACCEPTED, BAD_LENGTH, BAD_SAMPLE, BAD_WIDTH, BAD_MAGNITUDES, NO_BLOCK, BAD_HEAD, BAD_WORDS, BAD_END, ANSWERS };
+/* The causes, by their numbers: 01's, and from BAD_ORIENTATION on 02's. */
+enum { ACCEPTED, BAD_LENGTH, BAD_SAMPLE, BAD_WIDTH, BAD_MAGNITUDES, NO_BLOCK, BAD_HEAD, BAD_WORDS, BAD_END, BAD_ORIENTATION, ANSWERS };
 
 typedef struct { uint32_t number; size_t place; } Answer;
 
-/* Makes the tables; comes before all else. False if a table number, which is rounded from the cosine itself, breaks 01's rule of fractions. */
+/* Makes the tables; comes before all else. False if a table number, which is rounded from the cosine itself, breaks 01's rule of fractions, or if an
+ * element of a reoriented block is not one of the block's, or its negative, or is so in more than one way. */
 int make_second(void);
 
 Answer second_forward(const int32_t *samples, size_t n, int32_t *elements, size_t m);
 Answer second_back(const int32_t *elements, size_t n, int32_t *samples, size_t m);
 Answer second_round(const int32_t *elements, size_t n, uint32_t b, int32_t *coefficients, size_t m);
+Answer second_reorient(const int32_t *elements, size_t n, uint32_t orientation, int32_t *output, size_t m);
+Answer second_compose_orientations(uint32_t first, uint32_t second);
 Answer second_sheet(const uint32_t *words, size_t n, uint32_t b, int32_t *scratch, size_t k, uint32_t *output, size_t m);
 
 /* T.81: its factor of sample q = 8i+j in the DCT value at p = 8u+v, and the DCT value itself. */
 long double T81_factor(int p, int q);
 long double T81(const int32_t *samples, int p);
+
+/* A block in another orientation, which is one of the eight. */
+void reorient_samples(const int32_t *samples, uint32_t orientation, int32_t *reoriented);
 
 /* The value of an element of eight components, and N of it at the width b, which is one of the three. */
 long double element_value(const int32_t *u);

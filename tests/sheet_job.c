@@ -124,7 +124,8 @@ int main(void) {
     random_sheets();
     begin("end");
     for (int n = 0; n < ANSWERS; n++) {
-        expect((answered[n] > 0) == (n != BAD_MAGNITUDES && n != NO_BLOCK), "the answer %d came %d times", n, answered[n]);
+        int possible = n <= BAD_END && n != BAD_MAGNITUDES && n != NO_BLOCK;
+        expect((answered[n] > 0) == possible, "the answer %d came %d times", n, answered[n]);
         calls += answered[n];
     }
     printf("sheet_job: %d calls as 01 has them, %d accepted, %d refused for cause 1, %d for 2, %d for 3, %d for 6, %d for 7, %d for 8; seed %llu\n",

@@ -375,7 +375,7 @@ static void report(double ms) {
     expect(ms < most_ms, "that is too long");
     begin("end");
     for (int n = 0; n < ANSWERS; n++) {
-        int possible = n == ACCEPTED || n == BAD_SAMPLE || n >= BAD_HEAD;
+        int possible = n == ACCEPTED || n == BAD_SAMPLE || (n >= BAD_HEAD && n <= BAD_END);
         expect((answered[n] > 0) == possible, "the answer %d came %d times", n, answered[n]);
         runs += answered[n];
     }

@@ -8,7 +8,7 @@
 #include <stdlib.h>
 #include <string.h>
 
-enum { STACK = 1 << 20, MOST_CALLS = 16 };
+enum { STACK = 1 << 20, MOST_CALLS = 32 };
 
 static _Alignas(4096) unsigned char stack[STACK];
 static const unsigned char *top;     /* where the stack stood before the calls of a job */
@@ -18,7 +18,7 @@ static int calls;
 static int32_t blocks[PATTERNS][BLOCK], bad_block[BLOCK];
 static int32_t sets[PATTERNS][SET], any_set[SET], bad_set[SET]; /* the blocks' sets, an accepted one that no block has, one that is not accepted */
 static Sheet small, large, bad_sheet;
-static int32_t elements[SET], samples[BLOCK], coefficients[BLOCK], scratch[SET];
+static int32_t elements[SET], samples[BLOCK], coefficients[BLOCK], reoriented[SET], scratch[SET];
 static uint32_t output[ROOM];
 
 static void answered(struct weld_dct_answer answer) { numbers[calls++] = answer.number; }
@@ -42,6 +42,24 @@ static void call_round(void) {
     answered(weld_dct_round(bad_set, SET, widths[0], coefficients, BLOCK));
 }
 
+static void call_reorient(void) {
+    for (uint32_t orientation = 0; orientation < ORIENTATIONS; orientation++) {
+        answered(weld_dct_reorient(sets[SMOOTH], SET, orientation, reoriented, SET));
+        answered(weld_dct_reorient(any_set, SET, orientation, reoriented, SET));
+    }
+    answered(weld_dct_reorient(any_set, SET, ORIENTATIONS, reoriented, SET));
+    answered(weld_dct_reorient(bad_set, SET, 0, reoriented, SET));
+}
+
+static void call_compose(void) {
+    for (uint32_t orientation = 0; orientation < ORIENTATIONS; orientation++) {
+        answered(weld_dct_compose_orientations(1, orientation));
+        answered(weld_dct_compose_orientations(orientation, 4));
+    }
+    answered(weld_dct_compose_orientations(0, ORIENTATIONS));
+    answered(weld_dct_compose_orientations(ORIENTATIONS, 0));
+}
+
 static void call_sheet(void) {
     for (int w = 0; w < WIDTHS; w++) {
         answered(weld_dct_sheet(small.words, small.count, widths[w], scratch, SET, output, ROOM));
@@ -59,6 +77,8 @@ static const struct {
     {"forward", call_forward, {BAD_SAMPLE}, 1},
     {"back", call_back, {NO_BLOCK, BAD_MAGNITUDES}, 2},
     {"round", call_round, {BAD_MAGNITUDES}, 1},
+    {"reorient", call_reorient, {BAD_ORIENTATION, BAD_MAGNITUDES}, 2},
+    {"compose_orientations", call_compose, {BAD_ORIENTATION, BAD_ORIENTATION}, 2},
     {"sheet", call_sheet, {BAD_END}, 1},
 };
 
@@ -112,6 +132,7 @@ int main(int count, char **words) {
     char line[200] = "";
     for (size_t n = 0; n < COUNT(jobs); n++) {
         begin("%s", jobs[n].name);
+        calls = 0;
         jobs[n].call(); /* so that the functions of the C library are found, which takes stack itself */
         size_t first = taken(n, 0xA5), second = taken(n, 0x5A), most = first < second ? second : first;
         expect(most <= limit, "%zu bytes of stack are taken, and no more than %zu are promised", most, limit);

@@ -1,8 +1,10 @@
 //! Each side's results, looked at before anything is timed.
 use crate::inputs::{Elements, Given, Samples};
-use crate::jobs::{Jobs, Ways, DENSE, LIBRARY, PLAIN};
+use crate::jobs::{ByNumber, Jobs, Ways, DENSE, LIBRARY, PLAIN};
 use crate::{doubles, jpeg};
-use weld_dct::{Refusal, COMPONENTS, HIGHEST_SAMPLE, MAGNITUDES_LIMIT, PLACES, WIDTHS};
+use weld_dct::{
+    Refusal, COMPONENTS, HIGHEST_SAMPLE, MAGNITUDES_LIMIT, ORIENTATIONS, PLACES, WIDTHS,
+};
 
 type Outcome = Result<(), String>;
 
@@ -21,11 +23,15 @@ fn both_ways(ways: Ways, samples: &[i32]) -> ([Result<(), Refusal>; 2], Elements
     (returned, elements, again)
 }
 
-/// All that round returns and leaves for a set.
-fn rounded(jobs: Jobs, elements: &Elements, b: u32) -> (Result<(), Refusal>, Samples) {
-    let mut coefficients = [0; PLACES];
-    let returned = (jobs.round)(elements, b, &mut coefficients);
-    (returned, coefficients)
+/// All that round or reorient returns and leaves for a set.
+fn of_set<const N: usize>(
+    job: ByNumber,
+    elements: &Elements,
+    number: u32,
+) -> (Result<(), Refusal>, [i32; N]) {
+    let mut left = [0; N];
+    let returned = job(elements, number, &mut left);
+    (returned, left)
 }
 
 /// All that the sheet job returns and leaves.
@@ -67,22 +73,37 @@ fn ways(others: Ways, given: &Given) -> Outcome {
     Ok(())
 }
 
-/// Plain Rust equals the library in all jobs, and the dense passes do in theirs.
+/// The library's round or reorient, and plain Rust's, are equal by each of the numbers, for every set and for altered ones.
+fn sets<const N: usize>(
+    [one, other]: [ByNumber; 2],
+    numbers: impl IntoIterator<Item = u32>,
+    given: &Given,
+) -> Outcome {
+    for number in numbers {
+        for set in given.sets.iter().chain(&altered(&given.sets[0])) {
+            expect(
+                of_set::<N>(one, set, number) == of_set::<N>(other, set, number),
+                "plain Rust rounds or reorients otherwise than the library",
+            )?;
+        }
+    }
+    Ok(())
+}
+
+/// Plain Rust equals the library in all jobs, with a number that is no orientation besides, and the dense passes do in
+/// theirs.
 pub fn exact(given: &Given) -> Outcome {
+    let both = [LIBRARY, PLAIN];
     ways(PLAIN.ways, given)?;
     ways(DENSE, given)?;
+    sets::<PLACES>(both.map(|jobs| jobs.round), WIDTHS, given)?;
+    sets::<COMPONENTS>(both.map(|jobs| jobs.reorient), 0..=ORIENTATIONS, given)?;
     let faulty = [0, 2 << 28 | 2048].map(|word| {
         let mut words = given.sheets[0].clone();
         words[7] = word;
         words
     });
     for b in WIDTHS {
-        for set in given.sets.iter().chain(&altered(&given.sets[0])) {
-            expect(
-                rounded(LIBRARY, set, b) == rounded(PLAIN, set, b),
-                "plain Rust rounds otherwise than the library",
-            )?;
-        }
         for words in given.sheets.iter().chain(&faulty) {
             expect(
                 of_sheet(LIBRARY, words, b) == of_sheet(PLAIN, words, b),

@@ -4,13 +4,15 @@ use crate::dense::Dense;
 use crate::inputs::{Elements, Given, Samples};
 use crate::plain::ByClass;
 use crate::timing::Side;
-use crate::{exact, rounding, sheets};
+use crate::{exact, orientations, rounding, sheets};
 use std::hint::black_box;
-use weld_dct::{Refusal, COMPONENTS, PLACES, WIDTHS};
+use weld_dct::{Refusal, COMPONENTS, ORIENTATIONS, PLACES, WIDTHS};
 
 type OneWay = fn(&[i32], &mut [i32]) -> Result<(), Refusal>;
-type Round = fn(&[i32], u32, &mut [i32]) -> Result<(), Refusal>;
 type Sheet = fn(&[u32], u32, &mut [i32], &mut [u32]) -> Result<usize, Refusal>;
+
+/// Round at a width, or reorient by an orientation.
+pub type ByNumber = fn(&[i32], u32, &mut [i32]) -> Result<(), Refusal>;
 
 /// Forward and back.
 #[derive(Clone, Copy)]
@@ -20,11 +22,12 @@ pub struct Ways {
     pub back: OneWay,
 }
 
-/// A library's four jobs.
+/// A library's jobs.
 #[derive(Clone, Copy)]
 pub struct Jobs {
     pub ways: Ways,
-    pub round: Round,
+    pub round: ByNumber,
+    pub reorient: ByNumber,
     pub sheet: Sheet,
 }
 
@@ -35,6 +38,7 @@ pub const LIBRARY: Jobs = Jobs {
         back: weld_dct::back,
     },
     round: weld_dct::round,
+    reorient: weld_dct::reorient,
     sheet: weld_dct::sheet,
 };
 
@@ -45,6 +49,7 @@ pub const PLAIN: Jobs = Jobs {
         back: exact::back::<ByClass>,
     },
     round: rounding::round,
+    reorient: orientations::reorient,
     sheet: sheets::sheet,
 };
 
@@ -85,13 +90,15 @@ impl Ways {
 }
 
 impl Jobs {
-    /// Forward, back, round at each width, and sheet at 26, over all of these.
+    /// Forward, back, round at each width, reorient, and sheet at 26, over all of these.
     pub fn sides(self, given: &Given) -> Vec<Side<'_>> {
         let mut sides = self.ways.sides(given);
         for b in WIDTHS {
             let work = move || self.all_rounded(&given.sets, b);
             sides.push(self.ways.side(&format!("round at {b}"), given, work));
         }
+        let work = move || self.all_reoriented(&given.sets);
+        sides.push(self.ways.side("reorient", given, work));
         let work = move || self.all_sheets(&given.sheets);
         sides.push(self.ways.side("sheet at 26", given, work));
         sides
@@ -102,6 +109,15 @@ impl Jobs {
         for elements in sets {
             let _ = black_box((self.round)(black_box(elements), b, &mut coefficients));
             black_box(&coefficients);
+        }
+    }
+
+    /// Every set, by one orientation after another.
+    fn all_reoriented(self, sets: &[Elements]) {
+        let mut output = [0; COMPONENTS];
+        for (elements, o) in sets.iter().zip((0..ORIENTATIONS).cycle()) {
+            let _ = black_box((self.reorient)(black_box(elements), o, &mut output));
+            black_box(&output);
         }
     }
 

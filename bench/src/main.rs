@@ -9,6 +9,7 @@ mod inputs;
 mod instructions;
 mod jobs;
 mod jpeg;
+mod orientations;
 mod plain;
 mod rounding;
 mod sheets;

@@ -38,6 +38,10 @@ pub const BLOCKS_LIMIT: usize = 128;
 /// The widths b at which coefficients are rounded.
 pub const WIDTHS: [u32; 3] = [11, 20, 26];
 
+/// How many orientations a block has. They are 0 to 7: 0 changes nothing, 1 mirrors left and right, 2 top and bottom, 3
+/// both; 4 to 7 first swap rows with columns, then do as 0 to 3.
+pub const ORIENTATIONS: u32 = 8;
+
 /// The words of a sheet of so many blocks: a head, 64 for each block, and an end word. Where that is no `usize`, which
 /// no sheet comes near, it is the largest one.
 ///
@@ -68,6 +72,8 @@ pub enum Refusal {
     Words(usize),
     /// The end word, at this index, does not hold the number of blocks.
     End(usize),
+    /// An orientation is not below [`ORIENTATIONS`].
+    Orientation,
 }
 
 /// The numbers of the answers.
@@ -81,10 +87,11 @@ mod numbers {
     pub const HEAD: u32 = 6;
     pub const WORDS: u32 = 7;
     pub const END: u32 = 8;
+    pub const ORIENTATION: u32 = 9;
 }
 
 impl Refusal {
-    /// The number of the refusal, 1 to 8, as the C interface has it.
+    /// The number of the refusal, 1 to 9, as the C interface has it.
     pub const fn number(&self) -> u32 {
         match self {
             Refusal::Lengths => numbers::LENGTHS,
@@ -95,13 +102,15 @@ impl Refusal {
             Refusal::Head => numbers::HEAD,
             Refusal::Words(_) => numbers::WORDS,
             Refusal::End(_) => numbers::END,
+            Refusal::Orientation => numbers::ORIENTATION,
         }
     }
 
     /// The place that the refusal names, 0 where it names none.
     pub const fn place(&self) -> usize {
         match *self {
-            Refusal::Lengths | Refusal::Width | Refusal::NoBlock | Refusal::Head => 0,
+            Refusal::Lengths | Refusal::Width | Refusal::NoBlock => 0,
+            Refusal::Head | Refusal::Orientation => 0,
             Refusal::Sample(place) | Refusal::Magnitudes(place) => place,
             Refusal::Words(place) | Refusal::End(place) => place,
         }
@@ -138,6 +147,14 @@ extern "C" {
         coefficients: *mut i32,
         m: usize,
     ) -> Answer;
+    fn weld_dct_reorient(
+        elements: *const i32,
+        n: usize,
+        orientation: u32,
+        output: *mut i32,
+        m: usize,
+    ) -> Answer;
+    fn weld_dct_compose_orientations(first: u32, second: u32) -> Answer;
     fn weld_dct_sheet(
         words: *const u32,
         n: usize,
@@ -150,7 +167,8 @@ extern "C" {
 }
 
 impl Answer {
-    /// The place of an accepted call, which is the words written of a sheet and 0 otherwise; or the refusal.
+    /// The place of an accepted call, which is the words written of a sheet, the composed one of two orientations, and 0
+    /// otherwise; or the refusal.
     fn outcome(self) -> Result<usize, Refusal> {
         match self.number {
             numbers::ACCEPTED => Ok(self.place),
@@ -162,7 +180,8 @@ impl Answer {
             numbers::HEAD => Err(Refusal::Head),
             numbers::WORDS => Err(Refusal::Words(self.place)),
             numbers::END => Err(Refusal::End(self.place)),
-            number => unreachable!("the library is proved to return 0 to 8, and not {number}"),
+            numbers::ORIENTATION => Err(Refusal::Orientation),
+            number => unreachable!("the library is proved to return 0 to 9, and not {number}"),
         }
     }
 }
@@ -262,6 +281,67 @@ pub fn round(elements: &[i32], b: u32, coefficients: &mut [i32]) -> Result<(), R
     // SAFETY: the pointers are those of slices, with their lengths, and a slice borrowed mutably overlaps no other.
     let answer = unsafe { weld_dct_round(elements.as_ptr(), n, b, coefficients.as_mut_ptr(), m) };
     answer.outcome().map(|_| ())
+}
+
+/// Reorients 64 exact elements, without going back to samples.
+///
+/// `elements` is laid out as [`forward`] writes it, a block's or others within the limit, and `output` is likewise.
+/// [`ORIENTATIONS`] says what each orientation does. Where the elements are a block's, those of the reoriented block are
+/// written. Of any set, the same elements are written, each at its place and with its sign: the swap exchanges those of
+/// (u,v) and (v,u); then mirroring left and right negates those where v is odd, and top and bottom those where u is odd.
+/// No magnitude changes, so that what is written is within the limit again.
+///
+/// # Errors
+///
+/// In this order, and `output` is then as it was:
+/// - [`Refusal::Lengths`]: `elements` or `output` has not 512 numbers;
+/// - [`Refusal::Orientation`]: the orientation is above 7;
+/// - [`Refusal::Magnitudes`]: the magnitudes of an element's eight components sum above 262,144.
+///
+/// ```
+/// use weld_dct::{forward, reorient, Refusal, COMPONENTS, PLACES};
+///
+/// let (mut elements, mut mirrored) = ([0; COMPONENTS], [0; COMPONENTS]);
+/// let mut samples = [0; PLACES];
+/// samples[0] = 1; // top left
+/// forward(&samples, &mut elements)?;
+/// samples[..8].reverse();
+/// forward(&samples, &mut mirrored)?;
+///
+/// let mut output = [0; COMPONENTS];
+/// reorient(&elements, 1, &mut output)?;
+/// assert_eq!(output, mirrored);
+/// assert_eq!(reorient(&elements, 8, &mut output), Err(Refusal::Orientation));
+/// # Ok::<(), Refusal>(())
+/// ```
+pub fn reorient(elements: &[i32], orientation: u32, output: &mut [i32]) -> Result<(), Refusal> {
+    let (n, m) = (elements.len(), output.len());
+    let (elements, output) = (elements.as_ptr(), output.as_mut_ptr());
+    // SAFETY: the pointers are those of slices, with their lengths, and a slice borrowed mutably overlaps no other.
+    let answer = unsafe { weld_dct_reorient(elements, n, orientation, output, m) };
+    answer.outcome().map(|_| ())
+}
+
+/// Names the one orientation that equals the first followed by the second.
+///
+/// For all elements within the limit, [`reorient`] by the first and then by the second writes the same 512 numbers as by
+/// this one.
+///
+/// # Errors
+///
+/// [`Refusal::Orientation`]: one of the two is above 7.
+///
+/// ```
+/// use weld_dct::{compose_orientations, Refusal};
+///
+/// assert_eq!(compose_orientations(4, 1), Ok(5));
+/// assert_eq!(compose_orientations(1, 4), Ok(6)); // the swap takes left and right to top and bottom
+/// assert_eq!(compose_orientations(0, 8), Err(Refusal::Orientation));
+/// ```
+pub fn compose_orientations(first: u32, second: u32) -> Result<u32, Refusal> {
+    // SAFETY: only numbers are passed.
+    let answer = unsafe { weld_dct_compose_orientations(first, second) };
+    answer.outcome().map(|orientation| orientation as u32)
 }
 
 /// Makes a sheet of coefficient words of a sheet of sample words, at the width b, and returns the words written.

@@ -40,23 +40,22 @@ fn back_refuses(elements: &[i32], length: usize, expected: Refusal, number: u32,
     assert_eq!(samples, vec![7; length]);
 }
 
-/// Round refuses so, and leaves a buffer of this length as it was.
-fn round_refuses(
+/// Round at a width, or reorient by an orientation.
+type ByNumber = fn(&[i32], u32, &mut [i32]) -> Result<(), Refusal>;
+
+/// Such a job refuses so, and leaves a buffer of this length as it was.
+fn set_refuses(
+    job: ByNumber,
     elements: &[i32],
-    b: u32,
+    by: u32,
     length: usize,
     expected: Refusal,
     number: u32,
     place: usize,
 ) {
-    let mut coefficients = vec![7; length];
-    refused(
-        round(elements, b, &mut coefficients),
-        expected,
-        number,
-        place,
-    );
-    assert_eq!(coefficients, vec![7; length]);
+    let mut left = vec![7; length];
+    refused(job(elements, by, &mut left), expected, number, place);
+    assert_eq!(left, vec![7; length]);
 }
 
 /// Sheet refuses so at the width b, and leaves buffers of these lengths as they were.
@@ -118,13 +117,46 @@ fn round_names_lengths_then_width_then_magnitudes() {
     let mut elements = vec![0; COMPONENTS];
     (elements[16], elements[17]) = (MAGNITUDES_LIMIT as i32, -1);
     for b in WIDTHS {
-        round_refuses(&elements, b, PLACES, Refusal::Magnitudes(2), 4, 2);
+        set_refuses(round, &elements, b, PLACES, Refusal::Magnitudes(2), 4, 2);
     }
     for b in [0, 10, 12, 19, 21, 25, 27, u32::MAX] {
-        round_refuses(&elements, b, PLACES, Refusal::Width, 3, 0);
+        set_refuses(round, &elements, b, PLACES, Refusal::Width, 3, 0);
     }
     for (n, m) in WRONG_LENGTHS {
-        round_refuses(&vec![i32::MIN; n], 12, m, Refusal::Lengths, 1, 0);
+        set_refuses(round, &vec![i32::MIN; n], 12, m, Refusal::Lengths, 1, 0);
+    }
+}
+
+/// Numbers that are no orientations; in fewer bits they are.
+const NO_ORIENTATIONS: [u32; 7] = [8, 9, 15, 16, 256, 1 << 31, u32::MAX];
+
+#[test]
+fn reorient_names_lengths_then_orientation_then_magnitudes() {
+    let mut elements = vec![0; COMPONENTS];
+    (elements[16], elements[17]) = (MAGNITUDES_LIMIT as i32, -1);
+    elements[511] = i32::MIN;
+    for o in 0..ORIENTATIONS {
+        set_refuses(reorient, &elements, o, 512, Refusal::Magnitudes(2), 4, 2);
+    }
+    for o in NO_ORIENTATIONS {
+        set_refuses(reorient, &elements, o, 512, Refusal::Orientation, 9, 0);
+    }
+    for wrong in [0, 64, 511, 513] {
+        for (n, m) in [(wrong, 512), (512, wrong), (wrong, wrong)] {
+            set_refuses(reorient, &vec![i32::MIN; n], 8, m, Refusal::Lengths, 1, 0);
+        }
+    }
+}
+
+#[test]
+fn compose_names_what_is_no_orientation() {
+    for orientation in NO_ORIENTATIONS {
+        for other in [0, 7, orientation] {
+            for (first, second) in [(orientation, other), (other, orientation)] {
+                let came = compose_orientations(first, second);
+                refused(came, Refusal::Orientation, 9, 0);
+            }
+        }
     }
 }
 
@@ -186,6 +218,60 @@ fn accepted_calls_write_what_they_promise_and_no_more() {
         assert_eq!(
             output[..],
             [&[0x4000_4001], &made[..], &[END, 7, 7]].concat()
+        );
+    }
+}
+
+/// A block in another orientation.
+fn reoriented(samples: &[i32], orientation: u32) -> Vec<i32> {
+    let mut rows: Vec<Vec<i32>> = samples.chunks(8).map(<[i32]>::to_vec).collect();
+    if orientation >= 4 {
+        let column = |j| rows.iter().map(|row: &Vec<i32>| row[j]).collect();
+        rows = (0..8).map(column).collect();
+    }
+    if [1, 3].contains(&(orientation % 4)) {
+        rows.iter_mut().for_each(|row| row.reverse());
+    }
+    if [2, 3].contains(&(orientation % 4)) {
+        rows.reverse();
+    }
+    rows.concat()
+}
+
+/// What reorient writes for a set that it accepts.
+fn reoriented_set(elements: &[i32], orientation: u32) -> Vec<i32> {
+    let mut output = vec![7; COMPONENTS];
+    assert_eq!(reorient(elements, orientation, &mut output), Ok(()));
+    output
+}
+
+#[test]
+fn a_blocks_reoriented_elements_are_those_of_the_reoriented_block() {
+    let samples: Vec<i32> = (0..64).map(|n| n * n * 37 % 4096 - 2048).collect();
+    let elements = |samples: &[i32]| {
+        let mut elements = vec![0; COMPONENTS];
+        assert_eq!(forward(samples, &mut elements), Ok(()));
+        elements
+    };
+    for orientation in 0..ORIENTATIONS {
+        let output = reoriented_set(&elements(&samples), orientation);
+        assert_eq!(output, elements(&reoriented(&samples, orientation)));
+    }
+}
+
+#[test]
+fn one_orientation_followed_by_another_is_the_composed_one() {
+    let numbered: Vec<i32> = (0..64).collect();
+    let set: Vec<i32> = (0..512).map(|n| n * n * 31 % 65536 - 32768).collect(); // no block's
+    for (first, second) in (0..64).map(|n| (n / 8, n % 8)) {
+        let composed = compose_orientations(first, second).unwrap();
+        assert_eq!(
+            reoriented(&reoriented(&numbered, first), second),
+            reoriented(&numbered, composed)
+        );
+        assert_eq!(
+            reoriented_set(&reoriented_set(&set, first), second),
+            reoriented_set(&set, composed)
         );
     }
 }

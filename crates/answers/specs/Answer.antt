@@ -1,4 +1,4 @@
--- What a call returns (01, "Why a set or sheet is turned back"): a number, which is 0 for an accepted call, and a place.
+-- What a call returns (01, "Why a set or sheet is turned back", and 02, which adds numbers): a number, which is 0 for an accepted call, and a place.
 use mathlib.Core.Path.{_≡_}
 use mathlib.Core.Bool.{Bool, true, false, cond}
 use mathlib.Core.List.{List, [], _∷_}
@@ -6,13 +6,13 @@ use Prim.Native.Nat.{ℕ, _<_}
 use lib.Dec.{T, ltb, eqb}
 use Rattle.integers.specs.Search.{first}
 use Rattle.answers.specs.declared.Answer.{Answer}
-use Rattle.answers.specs.declared.Answer.the-variants.{Accepted, Lengths, Sample, Width, Magnitudes, NoBlock, Head, Words, End}
+use Rattle.answers.specs.declared.Answer.the-variants.{Accepted, Lengths, Sample, Width, Magnitudes, NoBlock, Head, Words, End, Orientation}
 
 pub record Returned : Type 0 where
   pub number : ℕ
   pub place : ℕ
 
--- 01's number and place for each case; no two answers have both the same (`only-answer`), so that a contract that fixes them fixes the answer
+-- the papers' number and place for each case; no two answers have both the same (`only-answer`), so that a contract that fixes them fixes the answer
 abbrev pub returned : Answer → Returned
 returned (Accepted n) = record { number = 0; place = n }
 returned Lengths = record { number = 1; place = 0 }
@@ -23,6 +23,7 @@ returned NoBlock = record { number = 5; place = 0 }
 returned Head = record { number = 6; place = 0 }
 returned (Words n) = record { number = 7; place = n }
 returned (End i) = record { number = 8; place = i }
+returned Orientation = record { number = 9; place = 0 }
 
 -- the causes of a refusal, in the order in which a job asks for them
 

@@ -1,9 +1,9 @@
-// What the public jobs answer. specs/ gives 01's number and place for each case.
+// What the public jobs answer. specs/ gives the papers' number and place for each case.
 ghost use mathlib.Core.Path.{_≡_};
 ghost use Rattle.answers.specs.Answer.{returned};
 
 pub enum Answer {
-    // The call did its work: a sheet in this many words, every other job with 0.
+    // The call did its work: a sheet in this many words, two orientations with the one that they are, every other job with 0.
     Accepted(usize),
     // A buffer does not have the length that the job asks for.
     Lengths,
@@ -21,9 +21,11 @@ pub enum Answer {
     Words(usize),
     // The end word, at this index, does not hold the number of blocks.
     End(usize),
+    // There is no such orientation.
+    Orientation,
 }
 
-// 01's number of an answer.
+// The papers' number of an answer.
 pub fn number(a: Answer) -> u32
     ensures { λ r. ⌜ r ≡ returned a .number ⌝ }
 {
@@ -37,6 +39,7 @@ pub fn number(a: Answer) -> u32
         Answer::Head => 6,
         Answer::Words(_) => 7,
         Answer::End(_) => 8,
+        Answer::Orientation => 9,
     }
 }
 
@@ -54,5 +57,6 @@ pub fn place(a: Answer) -> usize
         Answer::Head => 0,
         Answer::Words(n) => n,
         Answer::End(i) => i,
+        Answer::Orientation => 0,
     }
 }

@@ -61,6 +61,17 @@ element-double-sum x u v h k =
     sum-digits [] add elements 1 (λ q. scale (x q) (factors 2 (8 * u + v) q))
     ∙ sum-cong [] add 8 _ _ (λ i l. sum-cong [] add 8 _ _ (λ j m. ap₂ scale (ap x (ap (λ (a : ℕ). a + j) (times-comm i 8))) (two-factors u v i j h k l m)))
 
+-- the same by the element's number
+pub element-by-number : (x : ℕ → ℤ) (p : ℕ) → p < 64 → element 2 x p ≡ double-sum (λ i j. x (8 * i + j)) (p / 8) (p % 8)
+element-by-number x p h =
+    let number : 8 * (p / 8) + p % 8 ≡ p = omega arith in
+    rw number at (element-double-sum x (p / 8) (p % 8) (omega arith) (omega arith))
+
+pub double-sum-cong : (x y : ℕ → ℕ → ℤ) (u v : ℕ) → ((i j : ℕ) → i < 8 → j < 8 → x i j ≡ y i j) → double-sum x u v ≡ double-sum y u v
+unfolding double-sum
+double-sum-cong x y u v e =
+    sum-cong [] add 8 _ _ (λ i h. sum-cong [] add 8 _ _ (λ j l. ap (λ s. scale s (mul (factor u i) (factor v j))) (e i j h l)))
+
 -- columns, then rows: a step down each column j, and then a step across
 pub columns-then-rows : (x : ℕ → ℕ → ℤ) (u v : ℕ) → double-sum x u v ≡ step (λ j. step (λ i. integer (x i j)) u) v
 unfolding double-sum step
@@ -87,7 +98,7 @@ twice-factor zero n =
     ∙ mul-comm (cosine (pos 4)) (integer (pos 2)) ∙ mul-integer (pos 2) (eight-cosine (pos 4))
 twice-factor (suc k) n = mul-integer (pos 2) (eight-cosine (pos ((2 * n + 1) * suc k)))
 
-linear-double-sum : (L : List ℤ → List ℤ) → LinearMap L → (f : ℕ → ℕ → List ℤ)
+pub linear-double-sum : (L : List ℤ → List ℤ) → LinearMap L → (f : ℕ → ℕ → List ℤ)
     → L (sum [] add 8 (λ i. sum [] add 8 (f i))) ≡ sum [] add 8 (λ i. sum [] add 8 (λ j. L (f i j)))
 linear-double-sum L l f = linear-sum L l 8 (λ i. sum [] add 8 (f i)) ∙ sum-cong [] add 8 _ _ (λ i h. linear-sum L l 8 (f i))
 

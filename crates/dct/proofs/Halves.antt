@@ -4,7 +4,7 @@
 use mathlib.Core.Path.{_≡_, sym, ap, _∙_}
 use mathlib.Core.Bool.{Bool}
 use mathlib.Core.List.{List, []}
-use Prim.Native.Nat.{ℕ, _+_, _*_, _-_, _<_}
+use Prim.Native.Nat.{ℕ, _+_, _*_, _-_, _%_, _<_}
 use native.Mathlib.Omega.{arith}
 use lib.Dec.{T}
 use lib.IntN.{ℤ, pos, negsuc}
@@ -15,31 +15,30 @@ use Rattle.integers.proofs.Tests.{every₂, every₂-at, eqList→≡}
 use Rattle.ring.specs.Element.{add, scale, negate, subtract, cosine, mul}
 use Rattle.ring.proofs.Linear.{elements, scale-one}
 use Rattle.ring.proofs.Product.{mul-left, mul-right}
-use Rattle.dct.specs.Transform.{factor, step, half-step}
+use Rattle.dct.specs.Transform.{factor, step, half-step, mirror-sign}
 
--- t(k,7-n) is t(k,n) for even k, and its negative for odd k
+-- a mirrored row: t(k,7-n) is t(k,n) for even k, and its negative for odd k
 
-even-at : ℕ → ℕ → Bool
-even-at i n = eqList (factor (2 * i + 0) (7 - n)) (factor (2 * i + 0) n)
+mirrored-at : ℕ → ℕ → Bool
+mirrored-at k n = eqList (factor k (7 - n)) (scale (mirror-sign k) (factor k n))
 
-even-test : T (every₂ 4 even-at)
-unfolding even-at factor cosine
-even-test = tt
+mirrored-test : T (every₂ 8 mirrored-at)
+unfolding mirrored-at factor cosine
+mirrored-test = tt
+
+pub mirrored : (k n : ℕ) → k < 8 → n < 8 → factor k (7 - n) ≡ scale (mirror-sign k) (factor k n)
+unfolding mirrored-at
+mirrored k n h l = eqList→≡ _ _ (every₂-at 8 mirrored-at mirrored-test k n h l)
 
 pub even-mirrored : (i n : ℕ) → i < 4 → n < 4 → factor (2 * i + 0) (7 - n) ≡ factor (2 * i + 0) n
-unfolding even-at
-even-mirrored i n h l = eqList→≡ _ _ (every₂-at 4 even-at even-test i n h l)
-
-odd-at : ℕ → ℕ → Bool
-odd-at i n = eqList (factor (2 * i + 1) (7 - n)) (negate (factor (2 * i + 1) n))
-
-odd-test : T (every₂ 4 odd-at)
-unfolding odd-at factor cosine
-odd-test = tt
+even-mirrored i n h l =
+    let even : (2 * i + 0) % 2 ≡ 0 = omega arith in
+    rw even at (mirrored (2 * i + 0) n (omega arith) (omega arith)) ∙ scale-one (factor (2 * i + 0) n)
 
 pub odd-mirrored : (i n : ℕ) → i < 4 → n < 4 → factor (2 * i + 1) (7 - n) ≡ negate (factor (2 * i + 1) n)
-unfolding odd-at
-odd-mirrored i n h l = eqList→≡ _ _ (every₂-at 4 odd-at odd-test i n h l)
+odd-mirrored i n h l =
+    let odd : (2 * i + 1) % 2 ≡ 1 = omega arith in
+    rw odd at (mirrored (2 * i + 1) n (omega arith) (omega arith))
 
 -- a row from its half, for a frequency k at which the mirrored factors are s times the others
 

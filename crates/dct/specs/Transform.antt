@@ -6,7 +6,7 @@ use mathlib.Core.Bool.{Bool, false, cond, _&&_, _||_}
 use mathlib.Core.List.{List, [], _∷_}
 use Prim.Native.Nat.{ℕ, zero, suc, _+_, _*_, _/_, _%_, _^_, _≤_, _<_}
 use lib.Dec.{eqb}
-use lib.IntN.{ℤ, pos, natAbs}
+use lib.IntN.{ℤ, pos, negsuc, natAbs}
 use Rattle.integers.specs.Sum.{sum}
 use Rattle.ring.specs.Element.{add, scale, integer, cosine, mul}
 
@@ -18,6 +18,14 @@ angle (suc k) n = (2 * n + 1) * suc k
 -- t(k,n), for frequency k and sample place n
 unfoldable pub factor : ℕ → ℕ → List ℤ
 factor k n = cosine (pos (angle k n))
+
+-- an odd frequency
+abbrev odd : ℕ → Bool
+odd k = eqb (k % 2) 1
+
+-- t(k,7-n) is t(k,n) for even k, and its negative for odd k (`mirrored`): the sign of frequency k in a mirrored row
+abbrev pub mirror-sign : ℕ → ℤ
+mirror-sign k = cond (odd k) (negsuc 0) (pos 1)
 
 -- the product of the factors along d dimensions, of the frequencies in p and the places in q
 unfoldable pub factors : ℕ → ℕ → ℕ → List ℤ
@@ -45,10 +53,6 @@ abbrev pub Bounded : ℕ → ℕ → (ℕ → ℤ) → Type 0
 Bounded d S x = (q : ℕ) → q < 8 ^ d → natAbs (x q) ≤ S
 
 -- which components of the element at (u,v) may be non-zero (01, "Consequences to be shown")
-
--- an odd frequency
-abbrev odd : ℕ → Bool
-odd k = eqb (k % 2) 1
 
 -- 2 or 6; the other even frequencies are 0 and 4
 abbrev two-or-six : ℕ → Bool

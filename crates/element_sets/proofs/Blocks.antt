@@ -1,21 +1,21 @@
 -- A block's elements, as they stand in a buffer; and that they are an accepted set.
 -- Assumes nothing.
-use mathlib.Core.Path.{_≡_, sym, _∙_}
+use mathlib.Core.Path.{_≡_, _∙_}
 use mathlib.Core.List.{List}
 use Prim.Native.Nat.{ℕ, suc, _+_, _-_, _*_, _/_, _%_, _≤_, _<_}
 use native.Mathlib.Omega.{arith}
 use lib.IntN.{ℤ, pos}
 use lib.ListN.{length, getD}
-use Rattle.integers.specs.Table.{table}
-use Rattle.integers.proofs.Tables.{is-table, getD-table, length-table}
+use Rattle.integers.proofs.Tables.{getD-table, length-table}
 use Rattle.limits.specs.Limits.{places-in, components-in, sample-limit, magnitudes-limit-in}
 use Rattle.limits.proofs.Range.{in-range-small}
 use Rattle.ring.specs.Element.{component, integer, magnitudes}
-use Rattle.ring.proofs.Components.{Eight, by-components, eight-only}
+use Rattle.ring.proofs.Components.{Eight, eight-only}
 use Rattle.dct.specs.Transform.{element, Bounded}
 use Rattle.dct.proofs.Factors.{eight-element, eight-step}
 use Rattle.dct.proofs.Bound.{bound}
 use Rattle.elements.specs.Buffer.{element-at}
+use Rattle.elements.proofs.Buffers.{element-stored}
 use Rattle.element_sets.specs.Sets.{sample, AllInRange, elements-of, frequencies, AcceptedSet}
 
 module _ (d : ℕ) (x : List ℤ) where
@@ -33,13 +33,8 @@ module _ (d : ℕ) (x : List ℤ) where
 
   -- element p of the buffer is the block's
   pub element-of : (p : ℕ) → p < places-in d → element-at (elements-of d x) p ≡ element d (sample x) p
-  unfolding element-at
-  element-of p h =
-      is-table (pos 0) (table 8 at) 8 (component (element d (sample x) p)) (length-table 8 at) (λ k l. getD-table 8 at (pos 0) k l ∙ component-of p k h l)
-      ∙ sym (by-components (eight-element d (sample x) p))
-    where
-      at : ℕ → ℤ
-      at k = getD (elements-of d x) (8 * p + k) (pos 0)
+  unfolding elements-of
+  element-of p h = element-stored (element d (sample x)) p h (eight-element d (sample x) p)
 
 -- the samples of a column
 abbrev pub column : List ℤ → ℕ → ℕ → ℤ

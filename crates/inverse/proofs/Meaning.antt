@@ -17,7 +17,7 @@ use Rattle.integers.proofs.Tests.{fails}
 use Rattle.limits.specs.Limits.{places, components-size, magnitudes-limit}
 use Rattle.ring.specs.Element.{component}
 use Rattle.dct.specs.Transform.{element}
-use Rattle.dct.proofs.Dimensions.{element-double-sum}
+use Rattle.dct.proofs.Dimensions.{element-by-number}
 use Rattle.answers.specs.Answer as answers
 use Rattle.answers.specs.Answer.{Returned, Reason, holds, passes, accept, accepted}
 use Rattle.answers.proofs.Causes as causes
@@ -54,7 +54,7 @@ elements-are {x} {e} H = sym (is-table (pos 0) e components-size (λ i. componen
         let number : 8 * u + v ≡ i / 8 = omega arith in
         let index : 8 * (i / 8) + i % 8 ≡ i = omega arith in
         let there = rw (number, index) at (H .components u v (i % 8) (omega arith) (omega arith) (omega arith)) in
-        there ∙ ap (λ a. component a (i % 8)) (sym (rw number at (element-double-sum (sample x) u v (omega arith) (omega arith))))
+        there ∙ ap (λ a. component a (i % 8)) (sym (element-by-number (sample x) (i / 8) (omega arith)))
 
 is-candidate : {x e : List ℤ} → HasElements x e → candidate 2 e ≡ x
 is-candidate {x} {e} H = only-candidate 2 e x (H .size) (elements-are H)

@@ -1,4 +1,4 @@
--- What the functions return, as 01 has it.
+-- What the functions return, as the papers have it.
 use Rattle.answers.specs.Answer as answers
 use Rattle.weld_dct.specs.declared.Returned.{Returned}
 

@@ -1,5 +1,5 @@
-// The four jobs for programs in other languages: include/weld_dct.h declares them for C, rust/ wraps them for Rust. Each is the job of its crate,
-// with 01's number and place of the answer.
+// The jobs for programs in other languages: include/weld_dct.h declares them for C, rust/ wraps them for Rust. Each is the job of its crate,
+// with the papers' number and place of the answer.
 //
 // Of every function here: it takes any numbers and buffers of any length, and returns. Its contract has no `requires`, and says for every input what
 // it returns and what every buffer that it may write holds afterwards: the whole result, or one refusal with its place, and then each buffer is
@@ -9,6 +9,7 @@ ghost use lib.Dec.{T};
 ghost use lib.ListN.{length};
 ghost use Rattle.answers.specs.Answer.{accepted, returned};
 ghost use Rattle.inverse.specs.Back.{back-returned, back-samples};
+ghost use Rattle.reorientation.specs.Reorient.{compose-returned, reorient-output, reorient-returned};
 ghost use Rattle.rounding.specs.Rounding.{AllNear, round-coefficients, round-returned};
 ghost use Rattle.sheets.specs.Sheet.{sheet-output, sheet-returned, sheet-scratch};
 ghost use Rattle.transform.specs.Forward.{forward-elements, forward-returned};
@@ -24,7 +25,7 @@ pub struct Returned {
     place: usize,
 }
 
-// 01's number and place of an answer.
+// The papers' number and place of an answer.
 fn told(a: Answer) -> Returned
     ensures { λ r. ⌜ number-and-place r ≡ returned a ⌝ }
 {
@@ -75,4 +76,25 @@ pub extern "C" fn weld_dct_sheet(
     ensures { λ r. ⌜ now (output .exit) ≡ sheet-output (now (words .entry)) b (now (scratch .entry)) (now (output .entry)) ⌝ }
 {
     told(sheets::sheet(words, b, scratch, output))
+}
+
+// Elements in another orientation.
+#[no_mangle]
+pub extern "C" fn weld_dct_reorient(
+    elements: &[i32],
+    orientation: u32,
+    output: &mut [i32],
+) -> Returned
+    ensures { λ r. ⌜ number-and-place r ≡ reorient-returned (now (elements .entry)) orientation (now (output .entry)) ⌝ }
+    ensures { λ r. ⌜ now (output .exit) ≡ reorient-output (now (elements .entry)) orientation (now (output .entry)) ⌝ }
+{
+    told(reorientation::reorient(elements, orientation, output))
+}
+
+// The orientation that two, one after the other, are.
+#[no_mangle]
+pub extern "C" fn weld_dct_compose_orientations(first: u32, second: u32) -> Returned
+    ensures { λ r. ⌜ number-and-place r ≡ compose-returned first second ⌝ }
+{
+    told(reorientation::compose_orientations(first, second))
 }

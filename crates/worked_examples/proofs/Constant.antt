@@ -21,7 +21,7 @@ use Rattle.ring.proofs.Product.{mul-left, mul-right}
 use Rattle.ring.proofs.Ring.{scale-integer}
 use Rattle.limits.specs.Limits.{places, components-size}
 use Rattle.dct.specs.Transform.{factor, element, double-sum}
-use Rattle.dct.proofs.Dimensions.{element-double-sum}
+use Rattle.dct.proofs.Dimensions.{element-by-number, double-sum-cong}
 use Rattle.element_sets.specs.Sets.{sample, elements-of}
 use Rattle.worked_examples.specs.Examples.{all, at-corner}
 
@@ -54,15 +54,12 @@ double-sum-constant z u v =
 -- all samples z
 
 samples-constant : (z : ℤ) (u v : ℕ) → double-sum (λ i j. sample (all z) (8 * i + j)) u v ≡ double-sum (λ i j. z) u v
-unfolding double-sum
-samples-constant z u v = sum-cong [] add 8 _ _ (λ i h. sum-cong [] add 8 _ _ (λ j l. ap (λ s. scale s (mul (factor u i) (factor v j))) (at i j h l)))
-  where
-    at : (i j : ℕ) → i < 8 → j < 8 → sample (all z) (8 * i + j) ≡ z
-    at i j h l = getD-table places (λ n. z) (pos 0) (8 * i + j) (omega arith)
+samples-constant z u v =
+    double-sum-cong (λ i j. sample (all z) (8 * i + j)) (λ i j. z) u v (λ i j h l. getD-table places (λ n. z) (pos 0) (8 * i + j) (omega arith))
 
 element-constant : (z : ℤ) (p : ℕ) → p < places → element 2 (sample (all z)) p ≡ integer (z *ℤ corner p)
 element-constant z p h =
-    ap (λ (n : ℕ). element 2 (sample (all z)) n) (sym split) ∙ element-double-sum (sample (all z)) (p / 8) (p % 8) (omega arith) (omega arith)
+    element-by-number (sample (all z)) p h
     ∙ samples-constant z (p / 8) (p % 8) ∙ double-sum-constant z (p / 8) (p % 8)
     ∙ ap (scale z) (product (p / 8) (p % 8) (omega arith) (omega arith))
     ∙ scale-integer z (corner (8 * (p / 8) + p % 8)) ∙ ap (λ (n : ℕ). integer (z *ℤ corner n)) split

@@ -1,0 +1,51 @@
+// A block's elements in another orientation (02, request 1), without going back to samples; and the one that two, one after the other, are.
+//
+// `reorient` takes any buffers and any orientation. An accepted call leaves the elements of the block in that orientation, where they are a block's,
+// and of any other accepted set the same elements by the same rule of place and sign; a refused one leaves the buffer as it was, and names the first
+// cause.
+ghost use mathlib.Core.Path.{_≡_};
+ghost use Rattle.answers.specs.Answer.{returned};
+ghost use Rattle.reorientation.specs.Reorient.{compose-returned, reorient-output, reorient-returned};
+use answers::Answer;
+use element_sets::first_above;
+use limits::COMPONENTS;
+use limits::MAGNITUDES_LIMIT;
+use limits::PLACES;
+use orientations::ORIENTATIONS;
+use orientations::composed;
+use orientations::orient;
+
+// 512 numbers of elements in the given orientation, or why they are refused; then `output` is as it was.
+pub fn reorient(elements: &[i32], orientation: u32, output: &mut [i32]) -> Answer
+    ensures { λ r. ⌜ returned r ≡ reorient-returned (now (elements .entry)) orientation (now (output .entry)) ⌝ }
+    ensures { λ r. ⌜ now (output .exit) ≡ reorient-output (now (elements .entry)) orientation (now (output .entry)) ⌝ }
+{
+    if elements.len() != COMPONENTS {
+        return Answer::Lengths;
+    }
+    if output.len() != COMPONENTS {
+        return Answer::Lengths;
+    }
+    if orientation >= ORIENTATIONS {
+        return Answer::Orientation;
+    }
+    let p = first_above(elements, PLACES, MAGNITUDES_LIMIT);
+    if p < PLACES {
+        return Answer::Magnitudes(p);
+    }
+    orient(elements, orientation as usize, output);
+    Answer::Accepted(0)
+}
+
+// The orientation that the first followed by the second is, as the place of an accepted answer.
+pub fn compose_orientations(first: u32, second: u32) -> Answer
+    ensures { λ r. ⌜ returned r ≡ compose-returned first second ⌝ }
+{
+    if first >= ORIENTATIONS {
+        return Answer::Orientation;
+    }
+    if second >= ORIENTATIONS {
+        return Answer::Orientation;
+    }
+    Answer::Accepted(composed(first as usize, second as usize))
+}
