@@ -21,7 +21,8 @@
 extern "C" {
 #endif
 
-/* A block has 64 samples and 64 coefficients, row by row, and 64 elements of eight components each, in 512 numbers. */
+/* A block has 64 samples, 64 coefficients and 64 quantized values, row by row, 64 quantization steps, in zig-zag order, and 64 elements of
+ * eight components each, in 512 numbers. */
 #define WELD_DCT_PLACES 64
 #define WELD_DCT_COMPONENTS 512
 
@@ -39,28 +40,39 @@ extern "C" {
  * swap rows with columns, then do as 0 to 3. */
 #define WELD_DCT_ORIENTATIONS 8
 
+/* A quantization step is at least 1 and at most this. */
+#define WELD_DCT_STEP_LIMIT 1024
+
+/* The largest magnitude of a coefficient that is quantized, and of one that dequantize gives. The second is the first and four times the
+ * largest step, which is as far as a coefficient can move on the way there and back. */
+#define WELD_DCT_COEFFICIENT_LIMIT 4194303
+#define WELD_DCT_DEQUANTIZED_LIMIT 4198399
+
 /* The most blocks that a sheet has, and the words of a sheet of so many blocks: a head, 64 for each block, and an end word. */
 #define WELD_DCT_BLOCKS_LIMIT 128
 #define WELD_DCT_SHEET_WORDS(blocks) (2 + WELD_DCT_PLACES * (size_t)(blocks))
 
 /* What an answer's number says, and what its place is. */
 enum {
-    WELD_DCT_ACCEPTED = 0,           /* the work is done; place: of a sheet the words written, of two orientations the composed one,
-                                        otherwise 0 */
-    WELD_DCT_REFUSED_LENGTHS = 1,    /* samples or coefficients are not 64, elements, read or written, or scratch not 512, or a sheet's
-                                        output is shorter than the sheet; place 0 */
-    WELD_DCT_REFUSED_SAMPLE = 2,     /* a sample is out of range; place: its index, in a sheet the word's */
-    WELD_DCT_REFUSED_WIDTH = 3,      /* b is not 11, 20 or 26; place 0 */
-    WELD_DCT_REFUSED_MAGNITUDES = 4, /* an element's magnitudes sum above the limit; place: its number 8u+v */
-    WELD_DCT_REFUSED_NO_BLOCK = 5,   /* no block in range has these elements; place 0 */
-    WELD_DCT_REFUSED_HEAD = 6,       /* a sheet has no words, or its first is not of kind 1, or its sizes are not allowed; place 0 */
-    WELD_DCT_REFUSED_WORDS = 7,      /* a sheet has a wrong count of words; place: the count. Or a word is of another kind than its place
-                                        needs; place: its index, which is below the count */
-    WELD_DCT_REFUSED_END = 8,        /* the end word does not hold the number of blocks; place: its index */
-    WELD_DCT_REFUSED_ORIENTATION = 9 /* an orientation is above 7; place 0 */
+    WELD_DCT_ACCEPTED = 0,            /* the work is done; place: of a sheet the words written, of two orientations the composed one,
+                                         otherwise 0 */
+    WELD_DCT_REFUSED_LENGTHS = 1,     /* samples, coefficients, steps or quantized values are not 64, elements, read or written, or scratch
+                                         not 512, or a sheet's output is shorter than the sheet; place 0 */
+    WELD_DCT_REFUSED_SAMPLE = 2,      /* a sample is out of range; place: its index, in a sheet the word's */
+    WELD_DCT_REFUSED_WIDTH = 3,       /* b is not 11, 20 or 26; place 0 */
+    WELD_DCT_REFUSED_MAGNITUDES = 4,  /* an element's magnitudes sum above the limit; place: its number 8u+v */
+    WELD_DCT_REFUSED_NO_BLOCK = 5,    /* no block in range has these elements; place 0 */
+    WELD_DCT_REFUSED_HEAD = 6,        /* a sheet has no words, or its first is not of kind 1, or its sizes are not allowed; place 0 */
+    WELD_DCT_REFUSED_WORDS = 7,       /* a sheet has a wrong count of words; place: the count. Or a word is of another kind than its place
+                                         needs; place: its index, which is below the count */
+    WELD_DCT_REFUSED_END = 8,         /* the end word does not hold the number of blocks; place: its index */
+    WELD_DCT_REFUSED_ORIENTATION = 9, /* an orientation is above 7; place 0 */
+    WELD_DCT_REFUSED_STEP = 10,       /* a quantization step is not from 1 to 1,024; place: its index in the list, in zig-zag order */
+    WELD_DCT_REFUSED_COEFFICIENT = 11 /* a coefficient that is to be quantized, or one that dequantize would give, is beyond its limit;
+                                         place: its index 8u+v */
 };
 
-/* Where more than one sample, element or word has a fault, the place is the lowest. */
+/* Where more than one sample, element, word, step or coefficient has a fault, the place is the lowest. */
 struct weld_dct_answer {
     uint32_t number;
     size_t place;
@@ -105,6 +117,28 @@ struct weld_dct_answer weld_dct_reorient(const int32_t *elements, size_t n, uint
  * second gives the same 512 numbers as to reorient by this one.
  * Refuses: WELD_DCT_REFUSED_ORIENTATION, one of the two is above 7. */
 struct weld_dct_answer weld_dct_compose_orientations(uint32_t first, uint32_t second);
+
+/* Quantize: 64 quantized values, from 64 coefficients in eighths and their quantization steps (ITU-T T.81, A.3.4).
+ *
+ * coefficients: 64 numbers, the one of (u,v) at index 8u+v, as round lays them out. steps: 64 numbers from 1 to 1,024, in the zig-zag order
+ * of T.81, Figure A.6: those of (0,0), (0,1), (1,0), (2,0), (1,1), (0,2), (0,3), and so on to (7,7). quantized: exactly 64. The quantized value
+ * of (u,v) is written at index 8u+v. It is the whole number nearest to the coefficient over 8 times the step of (u,v); a half goes away from
+ * zero.
+ * Refuses, in this order: WELD_DCT_REFUSED_LENGTHS, n, k or m not 64; WELD_DCT_REFUSED_STEP; WELD_DCT_REFUSED_COEFFICIENT, a coefficient
+ * is beyond 4,194,303 in magnitude. */
+struct weld_dct_answer weld_dct_quantize(const int32_t *coefficients, size_t n, const uint32_t *steps, size_t k, int32_t *quantized,
+                                         size_t m);
+
+/* Dequantize: 64 coefficients in eighths, from 64 quantized values and their quantization steps.
+ *
+ * quantized: 64 numbers, laid out as quantize writes them. steps: 64 numbers from 1 to 1,024, in zig-zag order as for quantize.
+ * coefficients: exactly 64. The coefficient of (u,v) is written at index 8u+v. It is the quantized value times 8 times the step of (u,v).
+ * What quantize writes is accepted at the same steps, and each coefficient that comes back is no further than 4 times its step from the one
+ * that was quantized.
+ * Refuses, in this order: WELD_DCT_REFUSED_LENGTHS, n, k or m not 64; WELD_DCT_REFUSED_STEP; WELD_DCT_REFUSED_COEFFICIENT, a coefficient
+ * would be beyond 4,198,399 in magnitude. */
+struct weld_dct_answer weld_dct_dequantize(const int32_t *quantized, size_t n, const uint32_t *steps, size_t k, int32_t *coefficients,
+                                           size_t m);
 
 /* Sheet: a sheet of sample words to a sheet of coefficient words, at the width b.
  *

@@ -15,6 +15,7 @@ static long double factors[BLOCK][BLOCK];   /* 1/4 · C(u) · C(v) · cos((2i+1)
 static long double cosines[8];              /* 1, and c_1 to c_7 */
 static int64_t tables[WIDTHS][8];           /* 2^b, and m_1 to m_7 */
 static Source sources[ORIENTATIONS][BLOCK]; /* of the element at each place, before the block was reoriented */
+static int in_zigzag[BLOCK];                /* the index in zig-zag order of each place 8u+v */
 
 /* Cosines. */
 
@@ -96,6 +97,26 @@ static int find_sources(uint32_t orientation) {
     return only;
 }
 
+/* Zig-zag order. */
+
+/* T.81's Figure A.6, walked from place to place: upwards to the right, and downwards to the left. Where that leads out of the block, the walk goes
+ * one place along the edge, to the right or down, and turns. */
+static void walk_zigzag(void) {
+    int u = 0, v = 0, upwards = 1;
+    for (int k = 0; k < BLOCK; k++) {
+        int next_u = upwards ? u - 1 : u + 1, next_v = upwards ? v + 1 : v - 1;
+        in_zigzag[8 * u + v] = k;
+        if (next_u >= 0 && next_u < 8 && next_v >= 0 && next_v < 8) {
+            u = next_u;
+            v = next_v;
+            continue;
+        }
+        if (upwards ? v < 7 : u == 7) v++;
+        else u++;
+        upwards = !upwards;
+    }
+}
+
 /* Tables. */
 
 int make_second(void) {
@@ -109,6 +130,7 @@ int make_second(void) {
             if (k > 0) follows = follows && below(k, 2 * m - 1, b + 1) && !below(k, 2 * m + 1, b + 1);
         }
     for (uint32_t orientation = 0; orientation < ORIENTATIONS; orientation++) follows = find_sources(orientation) && follows;
+    walk_zigzag();
     return follows;
 }
 
@@ -246,6 +268,51 @@ Answer second_compose_orientations(uint32_t first, uint32_t second) {
     reorient_samples(once, second, twice);
     while (composed < ORIENTATIONS && !has_indices(composed, twice)) composed++;
     return (Answer){ACCEPTED, composed};
+}
+
+/* Quantized values. */
+
+/* what is asked before the numbers: the lengths, and the steps in the order of their list */
+static Answer judge_steps(size_t n, const uint32_t *steps, size_t k, size_t m) {
+    if (n != BLOCK || k != BLOCK || m != BLOCK) return (Answer){BAD_LENGTH, 0};
+    for (size_t i = 0; i < BLOCK; i++)
+        if (steps[i] < 1 || steps[i] > MOST_STEP) return (Answer){BAD_STEP, i};
+    return (Answer){ACCEPTED, 0};
+}
+
+/* 8 × the step of the place p */
+static int64_t divisor(const uint32_t *steps, size_t p) { return 8 * (int64_t)steps[in_zigzag[p]]; }
+
+/* The whole number whose product with D is nearest to y, of two as near the one further from zero. It is one of the three about the quotient
+ * without its fraction. */
+static int32_t nearest(int64_t y, int64_t D) {
+    int64_t found = y / D;
+    for (int64_t q = y / D - 1; q <= y / D + 1; q++) {
+        int64_t distance = llabs(y - D * q), least = llabs(y - D * found);
+        if (distance < least || (distance == least && llabs(q) > llabs(found))) found = q;
+    }
+    return (int32_t)found;
+}
+
+Answer second_quantize(const int32_t *coefficients, size_t n, const uint32_t *steps, size_t k, int32_t *quantized, size_t m) {
+    Answer answer = judge_steps(n, steps, k, m);
+    if (answer.number != ACCEPTED) return answer;
+    for (size_t p = 0; p < BLOCK; p++)
+        if (coefficients[p] < -MOST_COEFFICIENT || coefficients[p] > MOST_COEFFICIENT) return (Answer){BAD_COEFFICIENT, p};
+    for (size_t p = 0; p < BLOCK; p++) quantized[p] = nearest(coefficients[p], divisor(steps, p));
+    return answer;
+}
+
+Answer second_dequantize(const int32_t *quantized, size_t n, const uint32_t *steps, size_t k, int32_t *coefficients, size_t m) {
+    int64_t products[BLOCK];
+    Answer answer = judge_steps(n, steps, k, m);
+    if (answer.number != ACCEPTED) return answer;
+    for (size_t p = 0; p < BLOCK; p++) {
+        products[p] = quantized[p] * divisor(steps, p);
+        if (products[p] < -MOST_DEQUANTIZED || products[p] > MOST_DEQUANTIZED) return (Answer){BAD_COEFFICIENT, p};
+    }
+    for (size_t p = 0; p < BLOCK; p++) coefficients[p] = (int32_t)products[p];
+    return answer;
 }
 
 /* Sheets. */

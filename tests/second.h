@@ -1,5 +1,6 @@
-/* The second program: the jobs as 01 and 02 define them, made from these and from T.81's formula (ITU-T T.81, A.3.3) alone. It shares nothing with
- * the library. A job takes buffers of any lengths, leaves in them what the call has to leave there, and returns the answer. */
+/* The second program: the jobs as 01 and 02 define them, made from these and from T.81's formula and zig-zag order (ITU-T T.81, A.3.3 and Figure A.6)
+ * alone. It shares nothing with the library. A job takes buffers of any lengths, leaves in them what the call has to leave there, and returns the
+ * answer. */
 #ifndef SECOND_H
 #define SECOND_H
 
@@ -12,11 +13,13 @@ enum { LOWEST = -2048, HIGHEST = 2047 }; /* samples */
 enum { MOST_MAGNITUDES = 262144, MOST_BLOCKS = 128 };
 enum { SAMPLE_HEAD = 1, SAMPLE = 2, COEFFICIENT = 3, COEFFICIENT_HEAD = 4, END = 15 }; /* kinds of words */
 enum { ORIENTATIONS = 8 };
+enum { MOST_STEP = 1024, MOST_COEFFICIENT = 4194303, MOST_DEQUANTIZED = 4198399 };
 enum { WIDTHS = 3 };
 extern const uint32_t widths[WIDTHS];
 
 /* The causes, by their numbers: 01's, and from BAD_ORIENTATION on 02's. */
-enum { ACCEPTED, BAD_LENGTH, BAD_SAMPLE, BAD_WIDTH, BAD_MAGNITUDES, NO_BLOCK, BAD_HEAD, BAD_WORDS, BAD_END, BAD_ORIENTATION, ANSWERS };
+enum { ACCEPTED, BAD_LENGTH, BAD_SAMPLE, BAD_WIDTH, BAD_MAGNITUDES, NO_BLOCK, BAD_HEAD, BAD_WORDS, BAD_END, BAD_ORIENTATION, BAD_STEP,
+    BAD_COEFFICIENT, ANSWERS };
 
 typedef struct { uint32_t number; size_t place; } Answer;
 
@@ -29,6 +32,8 @@ Answer second_back(const int32_t *elements, size_t n, int32_t *samples, size_t m
 Answer second_round(const int32_t *elements, size_t n, uint32_t b, int32_t *coefficients, size_t m);
 Answer second_reorient(const int32_t *elements, size_t n, uint32_t orientation, int32_t *output, size_t m);
 Answer second_compose_orientations(uint32_t first, uint32_t second);
+Answer second_quantize(const int32_t *coefficients, size_t n, const uint32_t *steps, size_t k, int32_t *quantized, size_t m);
+Answer second_dequantize(const int32_t *quantized, size_t n, const uint32_t *steps, size_t k, int32_t *coefficients, size_t m);
 Answer second_sheet(const uint32_t *words, size_t n, uint32_t b, int32_t *scratch, size_t k, uint32_t *output, size_t m);
 
 /* T.81: its factor of sample q = 8i+j in the DCT value at p = 8u+v, and the DCT value itself. */

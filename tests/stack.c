@@ -17,8 +17,10 @@ static int calls;
 
 static int32_t blocks[PATTERNS][BLOCK], bad_block[BLOCK];
 static int32_t sets[PATTERNS][SET], any_set[SET], bad_set[SET]; /* the blocks' sets, an accepted one that no block has, one that is not accepted */
+static uint32_t steps[BLOCK], bad_steps[BLOCK];
+static int32_t any_coefficients[BLOCK], bad_coefficients[BLOCK], any_values[BLOCK], bad_values[BLOCK];
 static Sheet small, large, bad_sheet;
-static int32_t elements[SET], samples[BLOCK], coefficients[BLOCK], reoriented[SET], scratch[SET];
+static int32_t elements[SET], samples[BLOCK], coefficients[BLOCK], reoriented[SET], quantized[BLOCK], scratch[SET];
 static uint32_t output[ROOM];
 
 static void answered(struct weld_dct_answer answer) { numbers[calls++] = answer.number; }
@@ -60,6 +62,18 @@ static void call_compose(void) {
     answered(weld_dct_compose_orientations(ORIENTATIONS, 0));
 }
 
+static void call_quantize(void) {
+    answered(weld_dct_quantize(any_coefficients, BLOCK, steps, BLOCK, quantized, BLOCK));
+    answered(weld_dct_quantize(any_coefficients, BLOCK, bad_steps, BLOCK, quantized, BLOCK));
+    answered(weld_dct_quantize(bad_coefficients, BLOCK, steps, BLOCK, quantized, BLOCK));
+}
+
+static void call_dequantize(void) {
+    answered(weld_dct_dequantize(any_values, BLOCK, steps, BLOCK, coefficients, BLOCK));
+    answered(weld_dct_dequantize(any_values, BLOCK, bad_steps, BLOCK, coefficients, BLOCK));
+    answered(weld_dct_dequantize(bad_values, BLOCK, steps, BLOCK, coefficients, BLOCK));
+}
+
 static void call_sheet(void) {
     for (int w = 0; w < WIDTHS; w++) {
         answered(weld_dct_sheet(small.words, small.count, widths[w], scratch, SET, output, ROOM));
@@ -79,6 +93,8 @@ static const struct {
     {"round", call_round, {BAD_MAGNITUDES}, 1},
     {"reorient", call_reorient, {BAD_ORIENTATION, BAD_MAGNITUDES}, 2},
     {"compose_orientations", call_compose, {BAD_ORIENTATION, BAD_ORIENTATION}, 2},
+    {"quantize", call_quantize, {BAD_STEP, BAD_COEFFICIENT}, 2},
+    {"dequantize", call_dequantize, {BAD_STEP, BAD_COEFFICIENT}, 2},
     {"sheet", call_sheet, {BAD_END}, 1},
 };
 
@@ -118,6 +134,17 @@ static void prepare(void) {
     for (int n = 0; n < SET; n++) any_set[n] = any(-MOST_MAGNITUDES / 8, MOST_MAGNITUDES / 8);
     memcpy(bad_set, any_set, sizeof bad_set);
     bad_set[SET - 1] = MOST_MAGNITUDES + 1;
+    for (int n = 0; n < BLOCK; n++) {
+        steps[n] = (uint32_t)any(1, MOST_STEP);
+        any_coefficients[n] = any(-MOST_COEFFICIENT, MOST_COEFFICIENT);
+    }
+    memcpy(bad_steps, steps, sizeof bad_steps);
+    bad_steps[BLOCK - 1] = 0;
+    memcpy(bad_coefficients, any_coefficients, sizeof bad_coefficients);
+    bad_coefficients[BLOCK - 1] = MOST_COEFFICIENT + 1;
+    second_quantize(any_coefficients, BLOCK, steps, BLOCK, any_values, BLOCK);
+    memcpy(bad_values, any_values, sizeof bad_values);
+    bad_values[BLOCK - 1] = INT32_MAX;
     make_sheet(&small, 1, 1, ANY);
     make_sheet(&large, 4, MOST_BLOCKS / 4, SMOOTH);
     bad_sheet = small;

@@ -1,9 +1,10 @@
 //! Each side's results, looked at before anything is timed.
-use crate::inputs::{Elements, Given, Samples};
-use crate::jobs::{ByNumber, Jobs, Ways, DENSE, LIBRARY, PLAIN};
+use crate::inputs::{Elements, Given, Samples, Steps, STEPS};
+use crate::jobs::{ByNumber, BySteps, Jobs, Ways, DENSE, LIBRARY, PLAIN};
 use crate::{doubles, jpeg};
 use weld_dct::{
-    Refusal, COMPONENTS, HIGHEST_SAMPLE, MAGNITUDES_LIMIT, ORIENTATIONS, PLACES, WIDTHS,
+    Refusal, COEFFICIENT_LIMIT, COMPONENTS, DEQUANTIZED_LIMIT, HIGHEST_SAMPLE, MAGNITUDES_LIMIT,
+    ORIENTATIONS, PLACES, STEP_LIMIT, WIDTHS,
 };
 
 type Outcome = Result<(), String>;
@@ -34,6 +35,13 @@ fn of_set<const N: usize>(
     (returned, left)
 }
 
+/// All that quantize or dequantize returns and leaves.
+fn of_numbers(job: BySteps, numbers: &Samples, steps: &Steps) -> (Result<(), Refusal>, Samples) {
+    let mut left = [0; PLACES];
+    let returned = job(numbers, steps, &mut left);
+    (returned, left)
+}
+
 /// All that the sheet job returns and leaves.
 fn of_sheet(jobs: Jobs, words: &[u32], b: u32) -> (Result<usize, Refusal>, Elements, Vec<u32>) {
     let (mut scratch, mut output) = ([0; COMPONENTS], vec![0; words.len()]);
@@ -41,18 +49,35 @@ fn of_sheet(jobs: Jobs, words: &[u32], b: u32) -> (Result<usize, Refusal>, Eleme
     (returned, scratch, output)
 }
 
+/// These numbers with another one at index i.
+fn altered<T: Copy, const N: usize>(numbers: &[T; N], i: usize, to: T) -> [T; N] {
+    let mut altered = *numbers;
+    altered[i] = to;
+    altered
+}
+
 /// A block's elements with one component altered, in a row that back reads and in one that it does not. Such a set has no
 /// block, or is above the limit in a sum alone or already in a component.
-fn altered(elements: &Elements) -> Vec<Elements> {
-    let alter = |i: usize, to| {
-        let mut altered = *elements;
-        altered[i] = to;
-        altered
-    };
+fn altered_sets(elements: &Elements) -> Vec<Elements> {
+    let limit = MAGNITUDES_LIMIT as i32;
     [9, COMPONENTS - 9]
         .into_iter()
-        .flat_map(|i| [elements[i] + 1, MAGNITUDES_LIMIT as i32, i32::MIN].map(|to| alter(i, to)))
+        .flat_map(|i| [elements[i] + 1, limit, i32::MIN].map(|to| altered(elements, i, to)))
         .collect()
+}
+
+/// Numbers with one at a limit or beyond it, on either way, among them one that is 0 again times 8 in 32 bits.
+fn altered_numbers(numbers: &Samples) -> [Samples; 6] {
+    let most = DEQUANTIZED_LIMIT / 8;
+    [
+        COEFFICIENT_LIMIT,
+        -COEFFICIENT_LIMIT - 1,
+        -most,
+        most + 1,
+        1 << 29,
+        i32::MIN,
+    ]
+    .map(|to| altered(numbers, 9, to))
 }
 
 /// Forward and back of others equal the library's, for every block, for one out of range, and for altered sets.
@@ -66,7 +91,7 @@ fn ways(others: Ways, given: &Given) -> Outcome {
             &differs,
         )?;
     }
-    for set in altered(&given.sets[0]) {
+    for set in altered_sets(&given.sets[0]) {
         let back = |ways: Ways| (ways.back)(&set, &mut [0; PLACES]);
         expect(back(LIBRARY.ways) == back(others), &differs)?;
     }
@@ -80,10 +105,31 @@ fn sets<const N: usize>(
     given: &Given,
 ) -> Outcome {
     for number in numbers {
-        for set in given.sets.iter().chain(&altered(&given.sets[0])) {
+        for set in given.sets.iter().chain(&altered_sets(&given.sets[0])) {
             expect(
                 of_set::<N>(one, set, number) == of_set::<N>(other, set, number),
                 "plain Rust rounds or reorients otherwise than the library",
+            )?;
+        }
+    }
+    Ok(())
+}
+
+/// The library's quantize or dequantize, and plain Rust's, are equal for all of these and for altered ones, by the steps
+/// of the benchmark, by the smallest and the largest ones, and by some that are out of range.
+fn quantization([one, other]: [BySteps; 2], all: &[Samples]) -> Outcome {
+    let lists = [
+        STEPS,
+        [1; PLACES],
+        [STEP_LIMIT; PLACES],
+        altered(&STEPS, 7, 0),
+        altered(&STEPS, 7, STEP_LIMIT + 1),
+    ];
+    for steps in &lists {
+        for numbers in all.iter().chain(&altered_numbers(&all[0])) {
+            expect(
+                of_numbers(one, numbers, steps) == of_numbers(other, numbers, steps),
+                "plain Rust quantizes or dequantizes otherwise than the library",
             )?;
         }
     }
@@ -98,6 +144,8 @@ pub fn exact(given: &Given) -> Outcome {
     ways(DENSE, given)?;
     sets::<PLACES>(both.map(|jobs| jobs.round), WIDTHS, given)?;
     sets::<COMPONENTS>(both.map(|jobs| jobs.reorient), 0..=ORIENTATIONS, given)?;
+    quantization(both.map(|jobs| jobs.quantize), &given.coefficients)?;
+    quantization(both.map(|jobs| jobs.dequantize), &given.quantized)?;
     let faulty = [0, 2 << 28 | 2048].map(|word| {
         let mut words = given.sheets[0].clone();
         words[7] = word;
@@ -114,21 +162,13 @@ pub fn exact(given: &Given) -> Outcome {
     Ok(())
 }
 
-/// The library's coefficients at 26.
-fn coefficients(elements: &Elements) -> Samples {
-    let mut made = [0; PLACES];
-    let _ = weld_dct::round(elements, 26, &mut made);
-    made
-}
-
 /// Eight times the DCT values in doubles lie no further from the library's coefficients at 26 than these promise, and
 /// give the block back.
 pub fn doubles(given: &Given) -> Outcome {
     let most = 0.5 + 65536.0 / f64::from(1 << 26) + 1e-6;
-    for (samples, elements) in given.blocks.iter().zip(&given.sets) {
+    for (samples, made) in given.blocks.iter().zip(&given.coefficients) {
         let eighths = doubles::forward(samples);
-        let near = |(x, y): (&f64, i32)| (x - f64::from(y)).abs() <= most;
-        let made = coefficients(elements);
+        let near = |(x, y): (&f64, &i32)| (x - f64::from(*y)).abs() <= most;
         expect(
             eighths.iter().flatten().zip(made).all(near),
             "doubles are too far from the library's coefficients",
@@ -137,7 +177,7 @@ pub fn doubles(given: &Given) -> Outcome {
             doubles::round(&eighths)
                 .iter()
                 .zip(made)
-                .all(|(x, y)| x.abs_diff(y) <= 1),
+                .all(|(x, y)| x.abs_diff(*y) <= 1),
             "rounded doubles are too far from them",
         )?;
         expect(
@@ -151,12 +191,12 @@ pub fn doubles(given: &Given) -> Outcome {
 /// Every version of libjpeg-turbo's transform is within 1 of the library's coefficients at 26, for samples of 8 bits.
 pub fn jpeg(given: &Given) -> Outcome {
     for (_, version) in jpeg::versions() {
-        for (samples, elements) in given.blocks.iter().zip(&given.sets) {
+        for (samples, made) in given.blocks.iter().zip(&given.coefficients) {
             let mut block = jpeg::Block(samples.map(|x| x as i16));
             jpeg::forward(version, &mut block);
-            let near = |(x, y): (&i16, i32)| i32::from(*x).abs_diff(y) <= 1;
+            let near = |(x, y): (&i16, &i32)| i32::from(*x).abs_diff(*y) <= 1;
             expect(
-                block.0.iter().zip(coefficients(elements)).all(near),
+                block.0.iter().zip(made).all(near),
                 "libjpeg-turbo is too far from the library",
             )?;
         }

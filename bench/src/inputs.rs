@@ -1,7 +1,7 @@
-//! What every side is given: blocks, half of them random and half smooth with a little grain, their exact elements, and
-//! sheets of them.
+//! What every side is given: blocks, half of them random and half smooth with a little grain, their exact elements,
+//! coefficients and quantized values, and sheets of them.
 use std::array::from_fn;
-use weld_dct::{forward, sheet_words, Refusal, BLOCKS_LIMIT, COMPONENTS, PLACES};
+use weld_dct::{forward, quantize, round, sheet_words, Refusal, BLOCKS_LIMIT, COMPONENTS, PLACES};
 
 /// The blocks that are given.
 pub const BLOCKS: usize = 256;
@@ -12,21 +12,40 @@ pub type Samples = [i32; PLACES];
 /// The exact elements of a block.
 pub type Elements = [i32; COMPONENTS];
 
-/// Blocks, their exact elements, and the sheets that they fill.
+/// 64 quantization steps, in zig-zag order.
+pub type Steps = [u32; PLACES];
+
+/// The steps that everything is quantized by: T.81's Table K.1, for luminance.
+pub const STEPS: Steps = [
+    16, 11, 12, 14, 12, 10, 16, 14, 13, 14, 18, 17, 16, 19, 24, 40, 26, 24, 22, 22, 24, 49, 35, 37,
+    29, 40, 58, 51, 61, 60, 57, 51, 56, 55, 64, 72, 92, 78, 64, 68, 87, 69, 55, 56, 80, 109, 81,
+    87, 95, 98, 103, 104, 103, 62, 77, 113, 121, 112, 100, 120, 92, 101, 103, 99,
+];
+
+/// Blocks, their exact elements, coefficients at 26 and quantized values, and the sheets that they fill.
 pub struct Given {
     pub blocks: Vec<Samples>,
     pub sets: Vec<Elements>,
+    pub coefficients: Vec<Samples>,
+    pub quantized: Vec<Samples>,
     pub sheets: Vec<Vec<u32>>,
 }
 
 impl Given {
     /// With samples of so many bits, sign included.
     pub fn new(bits: u32) -> Result<Given, String> {
-        let blocks = blocks(bits);
+        Given::of(blocks(bits)).map_err(|refusal| refusal.to_string())
+    }
+
+    fn of(blocks: Vec<Samples>) -> Result<Given, Refusal> {
+        let sets = all(&blocks, forward)?;
+        let coefficients = all(&sets, |elements, made| round(elements, 26, made))?;
         Ok(Given {
-            sets: elements(&blocks).map_err(|refusal| refusal.to_string())?,
             sheets: sheets(&blocks, BLOCKS_LIMIT),
+            quantized: all(&coefficients, |y, made| quantize(y, &STEPS, made))?,
             blocks,
+            sets,
+            coefficients,
         })
     }
 }
@@ -71,13 +90,16 @@ fn blocks(bits: u32) -> Vec<Samples> {
     (0..BLOCKS / 2).flat_map(pair).collect()
 }
 
-/// The exact elements of each block.
-fn elements(blocks: &[Samples]) -> Result<Vec<Elements>, Refusal> {
-    let each = |block: &Samples| {
-        let mut made = [0; COMPONENTS];
-        forward(block, &mut made).map(|()| made)
+/// What a job makes of each of these.
+fn all<const N: usize, const M: usize>(
+    given: &[[i32; N]],
+    job: impl Fn(&[i32], &mut [i32]) -> Result<(), Refusal>,
+) -> Result<Vec<[i32; M]>, Refusal> {
+    let each = |numbers: &[i32; N]| {
+        let mut made = [0; M];
+        job(numbers, &mut made).map(|()| made)
     };
-    blocks.iter().map(each).collect()
+    given.iter().map(each).collect()
 }
 
 /// Sheets of so many of the blocks each, one block down.

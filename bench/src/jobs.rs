@@ -1,10 +1,10 @@
 //! The jobs, as the library and as plain Rust have them, behind the same pointers: none is worked into the loop that
 //! times it.
 use crate::dense::Dense;
-use crate::inputs::{Elements, Given, Samples};
+use crate::inputs::{Elements, Given, Samples, STEPS};
 use crate::plain::ByClass;
 use crate::timing::Side;
-use crate::{exact, orientations, rounding, sheets};
+use crate::{exact, orientations, quantization, rounding, sheets};
 use std::hint::black_box;
 use weld_dct::{Refusal, COMPONENTS, ORIENTATIONS, PLACES, WIDTHS};
 
@@ -13,6 +13,9 @@ type Sheet = fn(&[u32], u32, &mut [i32], &mut [u32]) -> Result<usize, Refusal>;
 
 /// Round at a width, or reorient by an orientation.
 pub type ByNumber = fn(&[i32], u32, &mut [i32]) -> Result<(), Refusal>;
+
+/// Quantize, or dequantize.
+pub type BySteps = fn(&[i32], &[u32], &mut [i32]) -> Result<(), Refusal>;
 
 /// Forward and back.
 #[derive(Clone, Copy)]
@@ -28,6 +31,8 @@ pub struct Jobs {
     pub ways: Ways,
     pub round: ByNumber,
     pub reorient: ByNumber,
+    pub quantize: BySteps,
+    pub dequantize: BySteps,
     pub sheet: Sheet,
 }
 
@@ -39,6 +44,8 @@ pub const LIBRARY: Jobs = Jobs {
     },
     round: weld_dct::round,
     reorient: weld_dct::reorient,
+    quantize: weld_dct::quantize,
+    dequantize: weld_dct::dequantize,
     sheet: weld_dct::sheet,
 };
 
@@ -50,6 +57,8 @@ pub const PLAIN: Jobs = Jobs {
     },
     round: rounding::round,
     reorient: orientations::reorient,
+    quantize: quantization::quantize,
+    dequantize: quantization::dequantize,
     sheet: sheets::sheet,
 };
 
@@ -89,8 +98,17 @@ impl Ways {
     }
 }
 
+/// Quantizes or dequantizes all of these.
+fn all_by_steps(job: BySteps, all: &[Samples]) {
+    let mut left = [0; PLACES];
+    for numbers in all {
+        let _ = black_box(job(black_box(numbers), black_box(&STEPS), &mut left));
+        black_box(&left);
+    }
+}
+
 impl Jobs {
-    /// Forward, back, round at each width, reorient, and sheet at 26, over all of these.
+    /// Forward, back, round at each width, reorient, quantize, dequantize, and sheet at 26, over all of these.
     pub fn sides(self, given: &Given) -> Vec<Side<'_>> {
         let mut sides = self.ways.sides(given);
         for b in WIDTHS {
@@ -99,6 +117,10 @@ impl Jobs {
         }
         let work = move || self.all_reoriented(&given.sets);
         sides.push(self.ways.side("reorient", given, work));
+        let work = move || all_by_steps(self.quantize, &given.coefficients);
+        sides.push(self.ways.side("quantize", given, work));
+        let work = move || all_by_steps(self.dequantize, &given.quantized);
+        sides.push(self.ways.side("dequantize", given, work));
         let work = move || self.all_sheets(&given.sheets);
         sides.push(self.ways.side("sheet at 26", given, work));
         sides

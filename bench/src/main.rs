@@ -11,6 +11,7 @@ mod jobs;
 mod jpeg;
 mod orientations;
 mod plain;
+mod quantization;
 mod rounding;
 mod sheets;
 mod sides;

@@ -99,7 +99,15 @@ pub fn print_instructions() -> Result<(), String> {
         "\n{:60}{one:>15}{other:>15}",
         "Instructions a block, by callgrind"
     );
-    for job in ["forward", "back", "round at 26", "reorient", "sheet at 26"] {
+    for job in [
+        "forward",
+        "back",
+        "round at 26",
+        "reorient",
+        "quantize",
+        "dequantize",
+        "sheet at 26",
+    ] {
         let count = |name| instructions::of_block(&format!("{name}: {job}"));
         println!("{job:60}{:15}{:15}", count(one)?, count(other)?);
     }

@@ -17,7 +17,8 @@
 
 use std::{error, fmt};
 
-/// The places of a block, row by row: it has as many samples, elements and coefficients.
+/// The places of a block, row by row: it has as many samples, elements, coefficients and quantized values, and as many
+/// quantization steps, which stand in zig-zag order.
 pub const PLACES: usize = 64;
 
 /// The components of a block's elements, eight for each.
@@ -41,6 +42,16 @@ pub const WIDTHS: [u32; 3] = [11, 20, 26];
 /// How many orientations a block has. They are 0 to 7: 0 changes nothing, 1 mirrors left and right, 2 top and bottom, 3
 /// both; 4 to 7 first swap rows with columns, then do as 0 to 3.
 pub const ORIENTATIONS: u32 = 8;
+
+/// The largest quantization step; the smallest is 1.
+pub const STEP_LIMIT: u32 = 1024;
+
+/// The largest magnitude of a coefficient that is quantized.
+pub const COEFFICIENT_LIMIT: i32 = 4_194_303;
+
+/// The largest magnitude of a coefficient that [`dequantize`] gives. It is more than [`COEFFICIENT_LIMIT`] by four times
+/// the largest step, which is as far as a coefficient can move on the way there and back.
+pub const DEQUANTIZED_LIMIT: i32 = 4_198_399;
 
 /// The words of a sheet of so many blocks: a head, 64 for each block, and an end word. Where that is no `usize`, which
 /// no sheet comes near, it is the largest one.
@@ -74,6 +85,12 @@ pub enum Refusal {
     End(usize),
     /// An orientation is not below [`ORIENTATIONS`].
     Orientation,
+    /// The quantization step at this index of the list, which is in zig-zag order, is not from 1 to [`STEP_LIMIT`]. It is
+    /// the first.
+    Step(usize),
+    /// The coefficient at this index, 8u+v, is beyond [`COEFFICIENT_LIMIT`], or the one that [`dequantize`] would write
+    /// there is beyond [`DEQUANTIZED_LIMIT`]. It is the first.
+    Coefficient(usize),
 }
 
 /// The numbers of the answers.
@@ -88,10 +105,12 @@ mod numbers {
     pub const WORDS: u32 = 7;
     pub const END: u32 = 8;
     pub const ORIENTATION: u32 = 9;
+    pub const STEP: u32 = 10;
+    pub const COEFFICIENT: u32 = 11;
 }
 
 impl Refusal {
-    /// The number of the refusal, 1 to 9, as the C interface has it.
+    /// The number of the refusal, 1 to 11, as the C interface has it.
     pub const fn number(&self) -> u32 {
         match self {
             Refusal::Lengths => numbers::LENGTHS,
@@ -103,6 +122,8 @@ impl Refusal {
             Refusal::Words(_) => numbers::WORDS,
             Refusal::End(_) => numbers::END,
             Refusal::Orientation => numbers::ORIENTATION,
+            Refusal::Step(_) => numbers::STEP,
+            Refusal::Coefficient(_) => numbers::COEFFICIENT,
         }
     }
 
@@ -113,6 +134,7 @@ impl Refusal {
             Refusal::Head | Refusal::Orientation => 0,
             Refusal::Sample(place) | Refusal::Magnitudes(place) => place,
             Refusal::Words(place) | Refusal::End(place) => place,
+            Refusal::Step(place) | Refusal::Coefficient(place) => place,
         }
     }
 }
@@ -155,6 +177,22 @@ extern "C" {
         m: usize,
     ) -> Answer;
     fn weld_dct_compose_orientations(first: u32, second: u32) -> Answer;
+    fn weld_dct_quantize(
+        coefficients: *const i32,
+        n: usize,
+        steps: *const u32,
+        k: usize,
+        quantized: *mut i32,
+        m: usize,
+    ) -> Answer;
+    fn weld_dct_dequantize(
+        quantized: *const i32,
+        n: usize,
+        steps: *const u32,
+        k: usize,
+        coefficients: *mut i32,
+        m: usize,
+    ) -> Answer;
     fn weld_dct_sheet(
         words: *const u32,
         n: usize,
@@ -181,7 +219,9 @@ impl Answer {
             numbers::WORDS => Err(Refusal::Words(self.place)),
             numbers::END => Err(Refusal::End(self.place)),
             numbers::ORIENTATION => Err(Refusal::Orientation),
-            number => unreachable!("the library is proved to return 0 to 9, and not {number}"),
+            numbers::STEP => Err(Refusal::Step(self.place)),
+            numbers::COEFFICIENT => Err(Refusal::Coefficient(self.place)),
+            number => unreachable!("the library is proved to return 0 to 11, and not {number}"),
         }
     }
 }
@@ -342,6 +382,82 @@ pub fn compose_orientations(first: u32, second: u32) -> Result<u32, Refusal> {
     // SAFETY: only numbers are passed.
     let answer = unsafe { weld_dct_compose_orientations(first, second) };
     answer.outcome().map(|orientation| orientation as u32)
+}
+
+/// Makes 64 quantized values of 64 coefficients in eighths, by their quantization steps (ITU-T T.81, A.3.4).
+///
+/// `coefficients` has the one of (u,v) at index 8u+v, as [`round`] lays them out. `steps` has numbers from 1 to 1,024, in
+/// the zig-zag order of T.81, Figure A.6: those of (0,0), (0,1), (1,0), (2,0), (1,1), (0,2), (0,3), and so on to (7,7).
+/// The quantized value of (u,v) is written at index 8u+v of `quantized`. It is the whole number nearest to the
+/// coefficient over 8 times the step of (u,v); a half goes away from zero.
+///
+/// # Errors
+///
+/// In this order, and `quantized` is then as it was:
+/// - [`Refusal::Lengths`]: `coefficients`, `steps` or `quantized` has not 64 numbers;
+/// - [`Refusal::Step`]: a step is not from 1 to 1,024;
+/// - [`Refusal::Coefficient`]: a coefficient is beyond 4,194,303 in magnitude.
+///
+/// ```
+/// use weld_dct::{quantize, Refusal, PLACES};
+///
+/// let (mut coefficients, mut steps) = ([0; PLACES], [16; PLACES]);
+/// (coefficients[0], coefficients[8]) = (1000, -204);
+/// steps[2] = 3; // of (1,0), which is at index 8
+/// let mut quantized = [0; PLACES];
+/// quantize(&coefficients, &steps, &mut quantized)?;
+/// assert_eq!(quantized[0], 8); // 1000 / 128 is 7.8125
+/// assert_eq!(quantized[8], -9); // -204 / 24 is -8.5
+///
+/// steps[63] = 0;
+/// assert_eq!(quantize(&coefficients, &steps, &mut quantized), Err(Refusal::Step(63)));
+/// # Ok::<(), Refusal>(())
+/// ```
+pub fn quantize(coefficients: &[i32], steps: &[u32], quantized: &mut [i32]) -> Result<(), Refusal> {
+    let (n, k, m) = (coefficients.len(), steps.len(), quantized.len());
+    let (steps, quantized) = (steps.as_ptr(), quantized.as_mut_ptr());
+    // SAFETY: the pointers are those of slices, with their lengths, and a slice borrowed mutably overlaps no other.
+    let answer = unsafe { weld_dct_quantize(coefficients.as_ptr(), n, steps, k, quantized, m) };
+    answer.outcome().map(|_| ())
+}
+
+/// Makes 64 coefficients in eighths of 64 quantized values, by their quantization steps.
+///
+/// `quantized` is laid out as [`quantize`] writes it, and `steps` has numbers from 1 to 1,024, in zig-zag order as there.
+/// The coefficient of (u,v) is written at index 8u+v of `coefficients`. It is the quantized value times 8 times the step
+/// of (u,v). What `quantize` writes is accepted at the same steps, and each coefficient that comes back is no further
+/// than 4 times its step from the one that was quantized.
+///
+/// # Errors
+///
+/// In this order, and `coefficients` is then as it was:
+/// - [`Refusal::Lengths`]: `quantized`, `steps` or `coefficients` has not 64 numbers;
+/// - [`Refusal::Step`]: a step is not from 1 to 1,024;
+/// - [`Refusal::Coefficient`]: a coefficient would be beyond 4,198,399 in magnitude.
+///
+/// ```
+/// use weld_dct::{dequantize, Refusal, PLACES};
+///
+/// let (mut quantized, steps) = ([0; PLACES], [16; PLACES]);
+/// quantized[0] = 8;
+/// let mut coefficients = [0; PLACES];
+/// dequantize(&quantized, &steps, &mut coefficients)?;
+/// assert_eq!(coefficients[0], 1024);
+///
+/// quantized[9] = i32::MAX;
+/// assert_eq!(dequantize(&quantized, &steps, &mut coefficients), Err(Refusal::Coefficient(9)));
+/// # Ok::<(), Refusal>(())
+/// ```
+pub fn dequantize(
+    quantized: &[i32],
+    steps: &[u32],
+    coefficients: &mut [i32],
+) -> Result<(), Refusal> {
+    let (n, k, m) = (quantized.len(), steps.len(), coefficients.len());
+    let (steps, coefficients) = (steps.as_ptr(), coefficients.as_mut_ptr());
+    // SAFETY: the pointers are those of slices, with their lengths, and a slice borrowed mutably overlaps no other.
+    let answer = unsafe { weld_dct_dequantize(quantized.as_ptr(), n, steps, k, coefficients, m) };
+    answer.outcome().map(|_| ())
 }
 
 /// Makes a sheet of coefficient words of a sheet of sample words, at the width b, and returns the words written.

@@ -14,66 +14,56 @@ fn one_block() -> Vec<u32> {
     words
 }
 
+/// A refusal, and the number and place that it has.
+type Expected = (Refusal, u32, usize);
+
 /// The refusal is the expected one, and has this number and place.
 fn refused<T: std::fmt::Debug + PartialEq>(
     came: Result<T, Refusal>,
-    expected: Refusal,
-    number: u32,
-    place: usize,
+    (expected, number, place): Expected,
 ) {
     assert_eq!(came, Err(expected));
     assert_eq!((expected.number(), expected.place()), (number, place));
     assert_eq!(expected.to_string(), format!("refused {number} at {place}"));
 }
 
-/// Forward refuses so, and leaves a buffer of this length as it was.
-fn forward_refuses(samples: &[i32], length: usize, expected: Refusal, number: u32, place: usize) {
-    let mut elements = vec![7; length];
-    refused(forward(samples, &mut elements), expected, number, place);
-    assert_eq!(elements, vec![7; length]);
+/// A job that writes one buffer refuses so, and leaves one of this length as it was.
+fn refuses(job: impl FnOnce(&mut [i32]) -> Result<(), Refusal>, length: usize, expected: Expected) {
+    let mut left = vec![7; length];
+    refused(job(&mut left), expected);
+    assert_eq!(left, vec![7; length]);
 }
 
-/// Back refuses so, and leaves a buffer of this length as it was.
-fn back_refuses(elements: &[i32], length: usize, expected: Refusal, number: u32, place: usize) {
-    let mut samples = vec![7; length];
-    refused(back(elements, &mut samples), expected, number, place);
-    assert_eq!(samples, vec![7; length]);
+/// Forward does.
+fn forward_refuses(samples: &[i32], length: usize, expected: Expected) {
+    refuses(|left| forward(samples, left), length, expected);
+}
+
+/// Back does.
+fn back_refuses(elements: &[i32], length: usize, expected: Expected) {
+    refuses(|left| back(elements, left), length, expected);
 }
 
 /// Round at a width, or reorient by an orientation.
 type ByNumber = fn(&[i32], u32, &mut [i32]) -> Result<(), Refusal>;
 
-/// Such a job refuses so, and leaves a buffer of this length as it was.
-fn set_refuses(
-    job: ByNumber,
-    elements: &[i32],
-    by: u32,
-    length: usize,
-    expected: Refusal,
-    number: u32,
-    place: usize,
-) {
-    let mut left = vec![7; length];
-    refused(job(elements, by, &mut left), expected, number, place);
-    assert_eq!(left, vec![7; length]);
+/// Such a job does.
+fn set_refuses(job: ByNumber, elements: &[i32], by: u32, length: usize, expected: Expected) {
+    refuses(|left| job(elements, by, left), length, expected);
+}
+
+/// Quantize, or dequantize.
+type BySteps = fn(&[i32], &[u32], &mut [i32]) -> Result<(), Refusal>;
+
+/// Such a job does.
+fn steps_refuse(job: BySteps, numbers: &[i32], steps: &[u32], length: usize, expected: Expected) {
+    refuses(|left| job(numbers, steps, left), length, expected);
 }
 
 /// Sheet refuses so at the width b, and leaves buffers of these lengths as they were.
-fn sheet_refuses(
-    words: &[u32],
-    b: u32,
-    lengths: (usize, usize),
-    expected: Refusal,
-    number: u32,
-    place: usize,
-) {
+fn sheet_refuses(words: &[u32], b: u32, lengths: (usize, usize), expected: Expected) {
     let (mut scratch, mut output) = (vec![7; lengths.0], vec![7; lengths.1]);
-    refused(
-        sheet(words, b, &mut scratch, &mut output),
-        expected,
-        number,
-        place,
-    );
+    refused(sheet(words, b, &mut scratch, &mut output), expected);
     assert_eq!((scratch, output), (vec![7; lengths.0], vec![7; lengths.1]));
 }
 
@@ -92,11 +82,11 @@ const WRONG_LENGTHS: [(usize, usize); 7] = [
 fn forward_names_lengths_then_the_first_sample() {
     let mut samples = vec![0; PLACES];
     (samples[63], samples[5]) = (LOWEST_SAMPLE - 1, HIGHEST_SAMPLE + 1);
-    forward_refuses(&samples, COMPONENTS, Refusal::Sample(5), 2, 5);
+    forward_refuses(&samples, COMPONENTS, (Refusal::Sample(5), 2, 5));
     samples[5] = HIGHEST_SAMPLE;
-    forward_refuses(&samples, COMPONENTS, Refusal::Sample(63), 2, 63);
+    forward_refuses(&samples, COMPONENTS, (Refusal::Sample(63), 2, 63));
     for (m, n) in WRONG_LENGTHS {
-        forward_refuses(&vec![i32::MIN; n], m, Refusal::Lengths, 1, 0);
+        forward_refuses(&vec![i32::MIN; n], m, (Refusal::Lengths, 1, 0));
     }
 }
 
@@ -104,11 +94,11 @@ fn forward_names_lengths_then_the_first_sample() {
 fn back_names_lengths_then_magnitudes_then_no_block() {
     let mut elements = vec![0; COMPONENTS];
     elements[0] = 1;
-    back_refuses(&elements, PLACES, Refusal::NoBlock, 5, 0);
+    back_refuses(&elements, PLACES, (Refusal::NoBlock, 5, 0));
     elements[511] = i32::MIN;
-    back_refuses(&elements, PLACES, Refusal::Magnitudes(63), 4, 63);
+    back_refuses(&elements, PLACES, (Refusal::Magnitudes(63), 4, 63));
     for (n, m) in WRONG_LENGTHS {
-        back_refuses(&vec![i32::MIN; n], m, Refusal::Lengths, 1, 0);
+        back_refuses(&vec![i32::MIN; n], m, (Refusal::Lengths, 1, 0));
     }
 }
 
@@ -117,13 +107,13 @@ fn round_names_lengths_then_width_then_magnitudes() {
     let mut elements = vec![0; COMPONENTS];
     (elements[16], elements[17]) = (MAGNITUDES_LIMIT as i32, -1);
     for b in WIDTHS {
-        set_refuses(round, &elements, b, PLACES, Refusal::Magnitudes(2), 4, 2);
+        set_refuses(round, &elements, b, PLACES, (Refusal::Magnitudes(2), 4, 2));
     }
     for b in [0, 10, 12, 19, 21, 25, 27, u32::MAX] {
-        set_refuses(round, &elements, b, PLACES, Refusal::Width, 3, 0);
+        set_refuses(round, &elements, b, PLACES, (Refusal::Width, 3, 0));
     }
     for (n, m) in WRONG_LENGTHS {
-        set_refuses(round, &vec![i32::MIN; n], 12, m, Refusal::Lengths, 1, 0);
+        set_refuses(round, &vec![i32::MIN; n], 12, m, (Refusal::Lengths, 1, 0));
     }
 }
 
@@ -136,14 +126,14 @@ fn reorient_names_lengths_then_orientation_then_magnitudes() {
     (elements[16], elements[17]) = (MAGNITUDES_LIMIT as i32, -1);
     elements[511] = i32::MIN;
     for o in 0..ORIENTATIONS {
-        set_refuses(reorient, &elements, o, 512, Refusal::Magnitudes(2), 4, 2);
+        set_refuses(reorient, &elements, o, 512, (Refusal::Magnitudes(2), 4, 2));
     }
     for o in NO_ORIENTATIONS {
-        set_refuses(reorient, &elements, o, 512, Refusal::Orientation, 9, 0);
+        set_refuses(reorient, &elements, o, 512, (Refusal::Orientation, 9, 0));
     }
     for wrong in [0, 64, 511, 513] {
         for (n, m) in [(wrong, 512), (512, wrong), (wrong, wrong)] {
-            set_refuses(reorient, &vec![i32::MIN; n], 8, m, Refusal::Lengths, 1, 0);
+            set_refuses(reorient, &vec![i32::MIN; n], 8, m, (Refusal::Lengths, 1, 0));
         }
     }
 }
@@ -154,7 +144,34 @@ fn compose_names_what_is_no_orientation() {
         for other in [0, 7, orientation] {
             for (first, second) in [(orientation, other), (other, orientation)] {
                 let came = compose_orientations(first, second);
-                refused(came, Refusal::Orientation, 9, 0);
+                refused(came, (Refusal::Orientation, 9, 0));
+            }
+        }
+    }
+}
+
+#[test]
+fn quantize_and_dequantize_name_lengths_then_step_then_coefficient() {
+    let jobs: [(BySteps, i32); 2] = [
+        (quantize, COEFFICIENT_LIMIT),
+        (dequantize, DEQUANTIZED_LIMIT / 8), // by the step 1
+    ];
+    for (job, most) in jobs {
+        let (mut numbers, mut steps) = (vec![most; PLACES], vec![1; PLACES]);
+        (numbers[40], numbers[63]) = (-most - 1, i32::MIN);
+        let expected = (Refusal::Coefficient(40), 11, 40);
+        steps_refuse(job, &numbers, &steps, 64, expected);
+        numbers[40] = -most;
+        let expected = (Refusal::Coefficient(63), 11, 63);
+        steps_refuse(job, &numbers, &steps, 64, expected);
+        (steps[5], steps[62]) = (STEP_LIMIT + 1, 0);
+        steps_refuse(job, &numbers, &steps, 64, (Refusal::Step(5), 10, 5));
+        steps[5] = STEP_LIMIT;
+        steps_refuse(job, &numbers, &steps, 64, (Refusal::Step(62), 10, 62));
+        for wrong in [0, 63, 65, 512] {
+            for (n, k, m) in [(wrong, 64, 64), (64, wrong, 64), (64, 64, wrong)] {
+                let (numbers, steps) = (vec![i32::MIN; n], vec![0; k]);
+                steps_refuse(job, &numbers, &steps, m, (Refusal::Lengths, 1, 0));
             }
         }
     }
@@ -163,24 +180,22 @@ fn compose_names_what_is_no_orientation() {
 #[test]
 fn sheet_names_width_then_head_then_count_then_lengths() {
     let words = one_block();
-    sheet_refuses(&[], 12, (0, 0), Refusal::Width, 3, 0);
-    sheet_refuses(&[], 26, (0, 0), Refusal::Head, 6, 0);
+    sheet_refuses(&[], 12, (0, 0), (Refusal::Width, 3, 0));
+    sheet_refuses(&[], 26, (0, 0), (Refusal::Head, 6, 0));
     for head in [0x2000_4001, 0x1000_0001, 0x1000_4000, 0x1000_4081] {
-        sheet_refuses(&[head], 26, (0, 0), Refusal::Head, 6, 0);
+        sheet_refuses(&[head], 26, (0, 0), (Refusal::Head, 6, 0));
     }
-    sheet_refuses(&words[..65], 26, (0, 0), Refusal::Words(65), 7, 65);
+    sheet_refuses(&words[..65], 26, (0, 0), (Refusal::Words(65), 7, 65));
     sheet_refuses(
         &[words.as_slice(), &[0]].concat(),
         26,
         (0, 0),
-        Refusal::Words(67),
-        7,
-        67,
+        (Refusal::Words(67), 7, 67),
     );
     let mut faulty = words;
     faulty[1] = 0;
     for lengths in [(511, 66), (513, 66), (0, 66), (512, 65), (512, 0)] {
-        sheet_refuses(&faulty, 26, lengths, Refusal::Lengths, 1, 0);
+        sheet_refuses(&faulty, 26, lengths, (Refusal::Lengths, 1, 0));
     }
 }
 
@@ -188,13 +203,13 @@ fn sheet_names_width_then_head_then_count_then_lengths() {
 fn sheet_names_the_first_faulty_word() {
     let mut words = one_block();
     words[65] = END + 1;
-    sheet_refuses(&words, 11, (512, 66), Refusal::End(65), 8, 65);
+    sheet_refuses(&words, 11, (512, 66), (Refusal::End(65), 8, 65));
     words[65] = SAMPLE;
-    sheet_refuses(&words, 11, (512, 66), Refusal::Words(65), 7, 65);
+    sheet_refuses(&words, 11, (512, 66), (Refusal::Words(65), 7, 65));
     words[64] = SAMPLE | 0x0FFF_F7FF; // -2049
-    sheet_refuses(&words, 11, (512, 66), Refusal::Sample(64), 2, 64);
+    sheet_refuses(&words, 11, (512, 66), (Refusal::Sample(64), 2, 64));
     words[40] = 0x3000_0800; // of another kind, and out of range
-    sheet_refuses(&words, 11, (512, 66), Refusal::Words(40), 7, 40);
+    sheet_refuses(&words, 11, (512, 66), (Refusal::Words(40), 7, 40));
 }
 
 #[test]
@@ -273,6 +288,31 @@ fn one_orientation_followed_by_another_is_the_composed_one() {
             reoriented_set(&reoriented_set(&set, first), second),
             reoriented_set(&set, composed)
         );
+    }
+}
+
+/// What quantize or dequantize writes for numbers that it accepts.
+fn by_steps(job: BySteps, numbers: &[i32], steps: &[u32]) -> Vec<i32> {
+    let mut left = vec![7; PLACES];
+    assert_eq!(job(numbers, steps, &mut left), Ok(()));
+    left
+}
+
+#[test]
+fn what_is_quantized_comes_back_within_four_steps() {
+    let steps: Vec<u32> = (1..=64).collect();
+    let divisors = by_steps(dequantize, &[1; PLACES], &steps); // 8 times the step of each place
+    let in_zigzag = [0, 1, 8, 16, 9, 2, 3, 63];
+    assert_eq!(
+        in_zigzag.map(|p| divisors[p] / 8),
+        [1, 2, 3, 4, 5, 6, 7, 64]
+    );
+    let coefficients: Vec<i32> = (0..64).map(|n| n * n * 2113 - COEFFICIENT_LIMIT).collect();
+    let quantized = by_steps(quantize, &coefficients, &steps);
+    let again = by_steps(dequantize, &quantized, &steps);
+    for p in 0..PLACES {
+        assert_eq!(again[p], quantized[p] * divisors[p]);
+        assert!((again[p] - coefficients[p]).abs() <= divisors[p] / 2);
     }
 }
 

@@ -6,7 +6,7 @@ use mathlib.Core.List.{List, [], _∷_}
 use lib.Dec.{eqb}
 use lib.ListN.{getD}
 use Rattle.answers.specs.declared.Answer.{Answer}
-use Rattle.answers.specs.declared.Answer.the-variants.{Accepted, Lengths, Sample, Width, Magnitudes, NoBlock, Head, Words, End, Orientation}
+use Rattle.answers.specs.declared.Answer.the-variants.{Accepted, Lengths, Sample, Width, Magnitudes, NoBlock, Head, Words, End, Orientation, Step, Coefficient}
 use Rattle.answers.specs.Answer.{Returned, returned}
 
 -- the answer that has a number and a place, and none where there is none
@@ -22,7 +22,9 @@ answers-of r =
     (cond (eqb (r .number) 7) (Words (r .place) ∷ [])
     (cond (eqb (r .number) 8) (End (r .place) ∷ [])
     (cond (eqb (r .number) 9) (Orientation ∷ [])
-    [])))))))))
+    (cond (eqb (r .number) 10) (Step (r .place) ∷ [])
+    (cond (eqb (r .number) 11) (Coefficient (r .place) ∷ [])
+    [])))))))))))
 
 there-and-back : (a : Answer) → answers-of (returned a) ≡ a ∷ []
 there-and-back (Accepted n) = refl
@@ -35,6 +37,8 @@ there-and-back Head = refl
 there-and-back (Words n) = refl
 there-and-back (End i) = refl
 there-and-back Orientation = refl
+there-and-back (Step k) = refl
+there-and-back (Coefficient p) = refl
 
 pub only-answer : (a b : Answer) → returned a ≡ returned b → a ≡ b
 only-answer a b e = ap (λ l. getD l 0 a) (sym (there-and-back a) ∙ ap answers-of e ∙ there-and-back b)

@@ -6,7 +6,7 @@ use Prim.Native.Nat.{ℕ, _<_}
 use lib.Dec.{T, ltb, eqb}
 use Rattle.integers.specs.Search.{first}
 use Rattle.answers.specs.declared.Answer.{Answer}
-use Rattle.answers.specs.declared.Answer.the-variants.{Accepted, Lengths, Sample, Width, Magnitudes, NoBlock, Head, Words, End, Orientation}
+use Rattle.answers.specs.declared.Answer.the-variants.{Accepted, Lengths, Sample, Width, Magnitudes, NoBlock, Head, Words, End, Orientation, Step, Coefficient}
 
 pub record Returned : Type 0 where
   pub number : ℕ
@@ -24,6 +24,8 @@ returned Head = record { number = 6; place = 0 }
 returned (Words n) = record { number = 7; place = n }
 returned (End i) = record { number = 8; place = i }
 returned Orientation = record { number = 9; place = 0 }
+returned (Step k) = record { number = 10; place = k }
+returned (Coefficient p) = record { number = 11; place = p }
 
 -- the causes of a refusal, in the order in which a job asks for them
 

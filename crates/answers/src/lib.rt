@@ -23,6 +23,10 @@ pub enum Answer {
     End(usize),
     // There is no such orientation.
     Orientation,
+    // The quantization step at this index of the list is out of range.
+    Step(usize),
+    // The coefficient at this index, which is to be quantized or was dequantized, is beyond its limit.
+    Coefficient(usize),
 }
 
 // The papers' number of an answer.
@@ -40,6 +44,8 @@ pub fn number(a: Answer) -> u32
         Answer::Words(_) => 7,
         Answer::End(_) => 8,
         Answer::Orientation => 9,
+        Answer::Step(_) => 10,
+        Answer::Coefficient(_) => 11,
     }
 }
 
@@ -58,5 +64,7 @@ pub fn place(a: Answer) -> usize
         Answer::Words(n) => n,
         Answer::End(i) => i,
         Answer::Orientation => 0,
+        Answer::Step(k) => k,
+        Answer::Coefficient(p) => p,
     }
 }

@@ -1,10 +1,10 @@
 -- The lowest index at which a test passes, as a loop that looks from the front finds it, and whether there is one, as a loop without an early
 -- exit does.
 -- Assumes nothing.
-use mathlib.Core.Path.{_≡_, refl, sym, ap, subst, _∙_}
+use mathlib.Core.Path.{_≡_, refl, sym, ap, ap₂, subst, _∙_}
 use mathlib.Core.Bool.{Bool, true, false, cond, _||_}
 use Prim.Native.Nat.{ℕ, zero, suc, _+_, _≤_, _<_, zero-le}
-use native.Mathlib.Nat.{not-suc-le-zero, lt-of-lt-of-le}
+use native.Mathlib.Nat.{le-refl, not-suc-le-zero, lt-of-lt-of-le}
 use native.Mathlib.Decide.{ℕ-discrete, decLt}
 use native.Mathlib.Numerals.{add-one}
 use native.Mathlib.Omega.{arith}
@@ -46,6 +46,13 @@ unfolding first
 first-none zero f P = refl
 first-none (suc n) f P =
     next n f (P .fails zero (omega arith)) ∙ ap suc (first-none n (λ k. f (suc k)) (record { room = omega arith; fails = λ k b. P .fails (suc k) (omega arith) }))
+
+-- two tests that agree below n
+pub first-ext : (n : ℕ) (f g : ℕ → Bool) → ((k : ℕ) → k < n → f k ≡ g k) → first n f ≡ first n g
+unfolding first
+first-ext zero f g h = refl
+first-ext (suc n) f g h =
+    ap₂ (λ t k. cond t zero (suc k)) (h zero (omega arith)) (first-ext n (λ k. f (suc k)) (λ k. g (suc k)) (λ k l. h (suc k) (omega arith)))
 
 -- no index below the first passes
 pub before-first : (n : ℕ) (f : ℕ → Bool) (k : ℕ) → k < first n f → f k ≡ false
@@ -112,3 +119,7 @@ module _ {n : ℕ} {f : ℕ → Bool} where
 -- none does
 pub any-none : (n : ℕ) (f : ℕ → Bool) → any n f ≡ false → (k : ℕ) → k < n → f k ≡ false
 any-none n f e k h = before-first n f k (lt-of-lt-of-le h (ltb-false (first n f) n e))
+
+-- and then the search comes to the end
+pub any-first : (n : ℕ) (f : ℕ → Bool) {r : Bool} → r ≡ any n f → r ≡ false → n ≡ first n f
+any-first n f a e = sym (first-none n f (record { room = le-refl n; fails = any-none n f (sym a ∙ e) }))

@@ -1,5 +1,5 @@
 -- The limits of 01 ("Sheets", "Rounding at a width", "Why a set or sheet is turned back"), as functions of the number of dimensions d of a block
--- and of the sample limit S. This is the one place of each number; the constants of the code stand in src/.
+-- and of the sample limit S, and those of 02. This is the one place of each number; the constants of the code stand in src/.
 use mathlib.Core.Bool.{Bool, _&&_}
 use Prim.Native.Nat.{ℕ, _+_, _-_, _*_, _/_, _^_}
 use lib.IntN.{ℤ, pos, negℤ}
@@ -59,3 +59,17 @@ distance-numerator = distance-numerator-in sample-limit 2
 -- the largest number of blocks of a sheet
 abbrev pub blocks-limit : ℕ
 blocks-limit = 128
+
+-- quantization (02, request 2)
+
+-- the largest quantization step; the smallest is 1
+abbrev pub step-limit : ℕ
+step-limit = 1024
+
+-- the largest magnitude of a coefficient in eighths that is quantized
+abbrev pub coefficient-limit : ℕ
+coefficient-limit = 4194303
+
+-- the largest magnitude of one that is dequantized: it is at most half of its divisor, 8 times the step, away from the one that was quantized
+abbrev pub dequantized-limit : ℕ
+dequantized-limit = coefficient-limit + 4 * step-limit

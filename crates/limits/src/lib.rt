@@ -1,4 +1,4 @@
-// The limits of 01 as constants of the code; specs/ has the same as definitions. No other crate writes one of these numbers.
+// The limits of 01 and 02 as constants of the code; specs/ has the same as definitions. No other crate writes one of these numbers.
 
 // The places of a block of 8 by 8: its samples, its elements and its coefficients.
 pub const PLACES: usize = 64;
@@ -19,3 +19,12 @@ pub const MAGNITUDES_LIMIT: u64 = 128 * SAMPLE_LIMIT as u64;
 
 // The largest number of blocks of a sheet.
 pub const BLOCKS_LIMIT: usize = 128;
+
+// The largest quantization step.
+pub const STEP_LIMIT: u32 = 1024;
+
+// The largest magnitude of a coefficient that is quantized.
+pub const COEFFICIENT_LIMIT: i32 = 4194303;
+
+// The largest magnitude of one that is dequantized.
+pub const DEQUANTIZED_LIMIT: i64 = COEFFICIENT_LIMIT as i64 + 4 * STEP_LIMIT as i64;

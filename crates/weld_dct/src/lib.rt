@@ -9,6 +9,7 @@ ghost use lib.Dec.{T};
 ghost use lib.ListN.{length};
 ghost use Rattle.answers.specs.Answer.{accepted, returned};
 ghost use Rattle.inverse.specs.Back.{back-returned, back-samples};
+ghost use Rattle.quantization.specs.Quantization.{dequantize-coefficients, dequantize-returned, quantize-returned, quantize-values};
 ghost use Rattle.reorientation.specs.Reorient.{compose-returned, reorient-output, reorient-returned};
 ghost use Rattle.rounding.specs.Rounding.{AllNear, round-coefficients, round-returned};
 ghost use Rattle.sheets.specs.Sheet.{sheet-output, sheet-returned, sheet-scratch};
@@ -97,4 +98,30 @@ pub extern "C" fn weld_dct_compose_orientations(first: u32, second: u32) -> Retu
     ensures { λ r. ⌜ number-and-place r ≡ compose-returned first second ⌝ }
 {
     told(reorientation::compose_orientations(first, second))
+}
+
+// The quantized values of 64 coefficients.
+#[no_mangle]
+pub extern "C" fn weld_dct_quantize(
+    coefficients: &[i32],
+    steps: &[u32],
+    quantized: &mut [i32],
+) -> Returned
+    ensures { λ r. ⌜ number-and-place r ≡ quantize-returned (now (coefficients .entry)) (now (steps .entry)) (now (quantized .entry)) ⌝ }
+    ensures { λ r. ⌜ now (quantized .exit) ≡ quantize-values (now (coefficients .entry)) (now (steps .entry)) (now (quantized .entry)) ⌝ }
+{
+    told(quantization::quantize(coefficients, steps, quantized))
+}
+
+// The coefficients that 64 quantized values stand for.
+#[no_mangle]
+pub extern "C" fn weld_dct_dequantize(
+    quantized: &[i32],
+    steps: &[u32],
+    coefficients: &mut [i32],
+) -> Returned
+    ensures { λ r. ⌜ number-and-place r ≡ dequantize-returned (now (quantized .entry)) (now (steps .entry)) (now (coefficients .entry)) ⌝ }
+    ensures { λ r. ⌜ now (coefficients .exit) ≡ dequantize-coefficients (now (quantized .entry)) (now (steps .entry)) (now (coefficients .entry)) ⌝ }
+{
+    told(quantization::dequantize(quantized, steps, coefficients))
 }

@@ -1,0 +1,2 @@
+pub mod ZigZag
+pub mod Quantizer

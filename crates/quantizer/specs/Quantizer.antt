@@ -1,0 +1,48 @@
+-- Quantization of a coefficient (02, request 2, as T.81 A.3.4), and 02's way back from it, dequantization.
+use mathlib.Core.Path.{_≡_}
+use mathlib.Core.Bool.{Bool, false, _||_}
+use mathlib.Core.List.{List}
+use Prim.Native.Nat.{ℕ, _*_, _<_}
+use lib.Dec.{eqb, ltb}
+use lib.IntN.{ℤ, pos, _*ℤ_, natAbs}
+use lib.ListN.{length, getD}
+use Rattle.integers.specs.Nearest.{half-away}
+use Rattle.limits.specs.Limits.{places, step-limit, dequantized-limit}
+use Rattle.quantizer.specs.ZigZag.{index-of}
+
+-- quantization steps
+
+-- "Steps are 1 to 1,024": cause 10 of a step
+abbrev pub step-outside : ℕ → Bool
+step-outside step = eqb step 0 || ltb step-limit step
+
+-- at the index k of a list
+abbrev pub step-outside-at : List ℕ → ℕ → Bool
+step-outside-at steps k = step-outside (getD steps k 0)
+
+-- 64 steps, each of them in range
+pub record Steps (steps : List ℕ) : Type 0 where
+  pub size : length steps ≡ places
+  pub in-range : (k : ℕ) → k < places → step-outside-at steps k ≡ false
+
+-- "lent as 64 numbers in T.81's zig-zag order": the step of the place p
+abbrev pub step-of : List ℕ → ℕ → ℕ
+step-of steps p = getD steps (index-of p) 0
+
+-- a coefficient in eighths and its step
+
+-- "8 × step"
+abbrev pub divisor : ℕ → ℕ
+divisor step = 8 * step
+
+-- "the coefficient in eighths over 8 × step, to the nearest, halves away from zero": the only such number, for a step above 0 (`only-quantized`)
+abbrev pub quantized : ℤ → ℕ → ℤ
+quantized y step = half-away y (divisor step)
+
+-- "The way back is the kept number times 8 × step"
+abbrev pub dequantized : ℤ → ℕ → ℤ
+dequantized q step = pos (divisor step) *ℤ q
+
+-- cause 11: "on the way back a result beyond ±4,198,399"
+abbrev pub dequantized-beyond : ℤ → Bool
+dequantized-beyond z = ltb dequantized-limit (natAbs z)
