@@ -96,9 +96,9 @@ struct weld_dct_answer weld_dct_back(const int32_t *elements, size_t n, int32_t 
 /* Round: 64 coefficients in eighths, from 64 exact elements, at the width b.
  *
  * elements: 512 numbers, laid out as forward writes them, a block's or others within the limit. coefficients: exactly 64, the one
- * of (u,v) at index 8u+v, which stands for eight times the DCT value. It is (N + 2^b) / 2^(b+1), rounded down, where N is
- * 2^b u_0 + m_1 u_1 + ... + m_7 u_7 and m_k is the whole number nearest to 2^b c_k. It is never further than 1/2 + 65,536/2^b from half
- * of the element's exact value.
+ * of (u,v) at index 8u+v, which stands for eight times the DCT value. It is the whole number nearest to N / 2^(b+1), where N is
+ * 2^b u_0 + m_1 u_1 + ... + m_7 u_7 and m_k is the whole number nearest to 2^b c_k; a half goes away from zero, so that elements with all
+ * components negated give all coefficients negated. A coefficient is never further than 1/2 + 65,536/2^b from half of its element's exact value.
  * Refuses, in this order: WELD_DCT_REFUSED_LENGTHS, n not 512 or m not 64; WELD_DCT_REFUSED_WIDTH; WELD_DCT_REFUSED_MAGNITUDES. */
 struct weld_dct_answer weld_dct_round(const int32_t *elements, size_t n, uint32_t b, int32_t *coefficients, size_t m);
 
@@ -146,8 +146,9 @@ struct weld_dct_answer weld_dct_dequantize(const int32_t *quantized, size_t n, c
  * blocks down in bits 13 to 0; for each block, left to right and then down, 64 words of kind 2, each a sample in 28-bit two's complement;
  * an end word of kind 15, its payload the number of blocks. Both sizes are at least 1 and their product is at most 128.
  * output: room for n words or more. Written are n: a head of kind 4 with the same sizes, for each block 64 words of kind 3, each a
- * coefficient in 28-bit two's complement, and the same end word. Words beyond them stay as they were. scratch: 512 numbers; afterwards
- * the elements of the last block. An accepted call answers 0 and n.
+ * coefficient in 28-bit two's complement as round gives it at b, and the same end word. Words beyond them stay as they were. A sheet with
+ * all samples negated, where these are in range, gives all coefficients negated. scratch: 512 numbers; afterwards the elements of the last
+ * block. An accepted call answers 0 and n.
  * Refuses, in this order: WELD_DCT_REFUSED_WIDTH; WELD_DCT_REFUSED_HEAD; WELD_DCT_REFUSED_WORDS for the count; WELD_DCT_REFUSED_LENGTHS,
  * k not 512 or m below n; then the first faulty word: WELD_DCT_REFUSED_WORDS for its kind, and otherwise WELD_DCT_REFUSED_SAMPLE or
  * WELD_DCT_REFUSED_END for what it holds. */

@@ -57,8 +57,19 @@ static void make_set(const int32_t *samples, int32_t *set) {
     memcpy(set, came, SET * sizeof set[0]);
 }
 
+/* an accepted set is rounded; with all components negated it is accepted, and all coefficients are negated */
+static void check_opposite(const int32_t *set, uint32_t b) {
+    int32_t negated[SET], coefficients[BLOCK];
+    for (int n = 0; n < SET; n++) negated[n] = -set[n];
+    expect(round_number(negated, b) == ACCEPTED, "round refuses an accepted set with all components negated");
+    memcpy(coefficients, came, sizeof coefficients);
+    expect(round_number(set, b) == ACCEPTED, "round refuses an accepted set");
+    for (int p = 0; p < BLOCK; p++)
+        expect(came[p] == -coefficients[p], "at b = %u the coefficients at %d are %d and %d", (unsigned)b, p, (int)came[p], (int)coefficients[p]);
+}
+
 static void round_at_all(const int32_t *set) {
-    for (int w = 0; w < WIDTHS; w++) expect(round_number(set, widths[w]) == ACCEPTED, "round refuses an accepted set");
+    for (int w = 0; w < WIDTHS; w++) check_opposite(set, widths[w]);
 }
 
 /* forward, T.81's values, rounding at each width, and the way back */
@@ -116,7 +127,7 @@ static void worked_examples(void) {
     example_of_one_level(2047, 262016, 131008);
     example_of_one_sample();
     example_of_one_component(2, 256, 11, 0, 237, 5);
-    example_of_one_component(2, -256, 11, 0, -236, 5);
+    example_of_one_component(2, -256, 11, 0, -237, 5); /* request 3 of 02 */
     for (int w = 0; w < WIDTHS; w++) {
         example_of_one_component(0, 262144, widths[w], 0, 131072, 5);
         example_of_one_component(0, 262145, widths[w], 4, 0, 4);
@@ -286,20 +297,29 @@ static void make_half(int32_t *u, uint32_t b, int64_t by) {
     u[k] = (int32_t)fitting;
 }
 
-/* A half goes up, at every place; one below it goes down. Blocks at random hardly ever come near. */
+/* how far below a half N is at the place p of the set n: 1, 0 or -1 */
+static int below_half(int p, int n) { return 1 - (p + n / WIDTHS) % 3; }
+
+/* A half goes away from zero, at every place; what is one below it goes down, and what is one above it up. Blocks at random hardly ever
+ * come near at 20 and 26. */
 static void halves(void) {
     int32_t set[SET];
+    int above[WIDTHS] = {0}, below[WIDTHS] = {0};
     for (int n = 0; n < WIDTHS * 100; n++) {
         uint32_t b = widths[n % WIDTHS];
         int64_t half = (int64_t)1 << b;
         begin("halves, set %d, b = %u", n, (unsigned)b);
-        for (int p = 0; p < BLOCK; p++) make_half(set + 8 * p, b, (p + n) / WIDTHS % 2);
-        round_number(set, b);
+        for (int p = 0; p < BLOCK; p++) make_half(set + 8 * p, b, below_half(p, n));
+        check_opposite(set, b);
         for (int p = 0; p < BLOCK; p++) {
-            int64_t up = 2 * half * came[p] - table_sum(set + 8 * p, b), by = (p + n) / WIDTHS % 2;
-            expect(up == (by == 0 ? half : 1 - half), "what is %lld below a half is rounded by %lld at %d", (long long)by, (long long)up, p);
+            int by = below_half(p, n);
+            int64_t N = table_sum(set + 8 * p, b), up = 2 * half * came[p] - N, wanted[] = {half - 1, N > 0 ? half : -half, 1 - half};
+            expect(up == wanted[1 + by], "N = %lld, %d below a half, is rounded by %lld at %d", (long long)N, by, (long long)up, p);
+            above[n % WIDTHS] += by == 0 && N > 0;
+            below[n % WIDTHS] += by == 0 && N < 0;
         }
     }
+    for (int w = 0; w < WIDTHS; w++) expect(above[w] > 0 && below[w] > 0, "%d halves are above 0, and %d below", above[w], below[w]);
 }
 
 /* Refusals. */

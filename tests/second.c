@@ -221,11 +221,19 @@ int64_t table_sum(const int32_t *u, uint32_t b) {
     return N;
 }
 
-/* (N + 2^b) / 2^(b+1), rounded down */
-static int32_t coefficient(const int32_t *u, uint32_t b) {
-    int64_t one = (int64_t)2 << b, sum = table_sum(u, b) + one / 2;
-    return (int32_t)(sum / one - (sum % one < 0));
+/* The whole number whose product with D is nearest to y, of two as near the one further from zero. It is one of the three about the quotient
+ * without its fraction. */
+static int32_t nearest(int64_t y, int64_t D) {
+    int64_t found = y / D;
+    for (int64_t q = y / D - 1; q <= y / D + 1; q++) {
+        int64_t distance = llabs(y - D * q), least = llabs(y - D * found);
+        if (distance < least || (distance == least && llabs(q) > llabs(found))) found = q;
+    }
+    return (int32_t)found;
 }
+
+/* nearest to N/2^(b+1) */
+static int32_t coefficient(const int32_t *u, uint32_t b) { return nearest(table_sum(u, b), (int64_t)2 << b); }
 
 /* Both sides are exact to far less than the 10^-9 that is allowed for long double. */
 int within_distance(int64_t y, long double eighths, uint32_t b) {
@@ -282,17 +290,6 @@ static Answer judge_steps(size_t n, const uint32_t *steps, size_t k, size_t m) {
 
 /* 8 × the step of the place p */
 static int64_t divisor(const uint32_t *steps, size_t p) { return 8 * (int64_t)steps[in_zigzag[p]]; }
-
-/* The whole number whose product with D is nearest to y, of two as near the one further from zero. It is one of the three about the quotient
- * without its fraction. */
-static int32_t nearest(int64_t y, int64_t D) {
-    int64_t found = y / D;
-    for (int64_t q = y / D - 1; q <= y / D + 1; q++) {
-        int64_t distance = llabs(y - D * q), least = llabs(y - D * found);
-        if (distance < least || (distance == least && llabs(q) > llabs(found))) found = q;
-    }
-    return (int32_t)found;
-}
 
 Answer second_quantize(const int32_t *coefficients, size_t n, const uint32_t *steps, size_t k, int32_t *quantized, size_t m) {
     Answer answer = judge_steps(n, steps, k, m);

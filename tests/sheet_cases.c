@@ -108,42 +108,46 @@ static void extreme_coefficients(void) {
 }
 
 /* N of a block at (0,1) */
-static int64_t N_beside_corner(const int32_t *samples) {
+static int64_t N_beside_corner(const int32_t *samples, uint32_t b) {
     int32_t elements[SET];
     second_forward(samples, BLOCK, elements, SET);
-    return table_sum(elements + 8, job->b);
+    return table_sum(elements + 8, b);
 }
 
 /* Two column sums for which N at (0,1) is a half: 2^b more than a multiple of 2^(b+1). A column sum of 1 adds its weight to N. */
-static int find_half(const int64_t *weight, int32_t *sum) {
-    int64_t half = (int64_t)1 << job->b;
+static int find_half(const int64_t *weight, int32_t *sum, uint32_t b) {
+    int64_t half = (int64_t)1 << b;
     for (sum[0] = 0; sum[0] <= 8 * HIGHEST; sum[0]++)
         for (sum[1] = 0; sum[1] <= 8 * HIGHEST; sum[1]++)
             if ((sum[0] * weight[0] + sum[1] * weight[1]) % (2 * half) == half) return 1;
     return 0;
 }
 
-/* halves go up, of N above 0 and below; blocks at random hardly ever have one */
-static void halves(void) {
-    int64_t weight[2], half = (int64_t)1 << job->b;
+void make_halves(Sheet *sheet, uint32_t b) {
+    int64_t weight[2], half = (int64_t)1 << b;
     int32_t samples[BLOCK] = {0}, sum[2];
-    Sheet sheet;
-    begin("halves, b = %u", (unsigned)job->b);
     for (int j = 0; j < 2; j++) {
         samples[j] = 1;
-        weight[j] = N_beside_corner(samples);
+        weight[j] = N_beside_corner(samples, b);
         samples[j] = 0;
     }
-    expect(find_half(weight, sum), "no column sums give a half");
-    make_column(&sheet, 2);
+    expect(find_half(weight, sum, b), "no column sums give a half");
+    make_column(sheet, 2);
     for (int sign = 1; sign >= -1; sign -= 2) {
         for (int q = 0; q < BLOCK; q++) {
             samples[q] = q % 8 < 2 ? sign * ((sum[q % 8] + q / 8) / 8) : 0; /* the sum, shared out over eight rows */
-            sheet.words[(sign == 1 ? 1 : 1 + BLOCK) + q] = make_word(SAMPLE, samples[q]);
+            sheet->words[(sign == 1 ? 1 : 1 + BLOCK) + q] = make_word(SAMPLE, samples[q]);
         }
-        int64_t rest = N_beside_corner(samples) % (2 * half);
+        int64_t rest = N_beside_corner(samples, b) % (2 * half);
         expect(rest == sign * half, "the block has no half");
     }
+}
+
+/* halves go away from zero */
+static void halves(void) {
+    Sheet sheet;
+    begin("halves, b = %u", (unsigned)job->b);
+    make_halves(&sheet, job->b);
     check_accepted(&sheet);
 }
 

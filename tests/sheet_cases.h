@@ -9,6 +9,9 @@ typedef struct { size_t count; uint32_t words[ROOM]; } Sheet;
 
 void make_sheet(Sheet *sheet, uint32_t a, uint32_t d, enum pattern pattern);
 
+/* Two blocks, each the negative of the other, whose N at (0,1) is a half at the width b. Blocks at random hardly ever have one at 20 and 26. */
+void make_halves(Sheet *sheet, uint32_t b);
+
 /* Cuts the sheet, or makes it longer by words that are samples. */
 void set_count(Sheet *sheet, size_t count);
 

@@ -5,12 +5,12 @@
 #include <stdio.h>
 #include <string.h>
 
+static Pair words, scratch, output; /* the buffers of the last call */
 static int answered[ANSWERS];
 static uint32_t width; /* at which the cases of sheet_cases.h are run */
 
 /* the call with n words, of which the sheet's are the first, a scratch of k numbers and an output of m */
 static Answer check_lengths(const Sheet *sheet, size_t n, uint32_t b, size_t k, size_t m) {
-    static Pair words, scratch, output;
     fill(&words, "words", sheet->words, sheet->count, n);
     fill(&scratch, "scratch", NULL, 0, k);
     fill(&output, "output", NULL, 0, m);
@@ -111,6 +111,38 @@ static void random_sheets(void) {
     }
 }
 
+/* the sheet with all samples negated, all in range: its coefficients are negated, and all else is the same */
+static void check_negative(const Sheet *sheet, uint32_t b) {
+    static uint32_t positive[ROOM];
+    Sheet negative = *sheet;
+    size_t end = sheet->count - 1;
+    for (size_t i = 1; i < end; i++) negative.words[i] = make_word(SAMPLE, -payload_value(sheet->words[i]));
+    expect(check_lengths(sheet, sheet->count, b, SET, sheet->count).number == ACCEPTED, "the sheet is refused");
+    memcpy(positive, output.library + GUARD, sheet->count * sizeof positive[0]);
+    expect(check_lengths(&negative, sheet->count, b, SET, sheet->count).number == ACCEPTED, "its negative is refused");
+    for (size_t i = 0; i <= end; i++) {
+        uint32_t w = i == 0 || i == end ? positive[i] : make_word(COEFFICIENT, -payload_value(positive[i])), came = (uint32_t)output.library[GUARD + i];
+        expect(came == w, "the word at index %zu is %08X, expected is %08X", i, (unsigned)came, (unsigned)w);
+    }
+}
+
+static void negatives(void) {
+    Sheet sheet;
+    for (int n = 0; n < 400; n++) {
+        uint32_t b = widths[n % WIDTHS];
+        begin("a sheet and its negative, %d, b = %u", n, (unsigned)b);
+        make_sheet(&sheet, (uint32_t)any(1, 4), (uint32_t)any(1, 4), (enum pattern)(n % PATTERNS));
+        for (size_t i = 1; i < sheet.count - 1; i++)
+            if (payload_value(sheet.words[i]) == LOWEST) sheet.words[i] = make_word(SAMPLE, LOWEST + 1);
+        check_negative(&sheet, b);
+    }
+    for (int w = 0; w < WIDTHS; w++) {
+        begin("a sheet of halves and its negative, b = %u", (unsigned)widths[w]);
+        make_halves(&sheet, widths[w]);
+        check_negative(&sheet, widths[w]);
+    }
+}
+
 int main(void) {
     int calls = 0;
     start("sheet_job");
@@ -122,6 +154,7 @@ int main(void) {
     no_widths();
     lengths_above_32_bits();
     random_sheets();
+    negatives();
     begin("end");
     for (int n = 0; n < ANSWERS; n++) {
         int possible = n <= BAD_END && n != BAD_MAGNITUDES && n != NO_BLOCK;

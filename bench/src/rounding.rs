@@ -59,10 +59,11 @@ impl Width {
         self.sum_of_terms(u, 0, 1)
     }
 
-    /// (N + 2^b) / 2^(b+1), rounded down.
+    /// The whole number nearest to N / 2^(b+1); a half goes away from zero, since from a negative N first 1 is taken.
     #[inline(always)]
     fn coefficient(&self, Element(u): Element) -> i32 {
-        ((self.numerator(u) + (1 << self.b)) >> (self.b + 1)) as i32
+        let n = self.numerator(u);
+        ((((n + (n >> 63)) >> self.b) + 1) >> 1) as i32
     }
 
     /// The coefficients of elements within the limit.

@@ -294,9 +294,10 @@ pub fn back(elements: &[i32], samples: &mut [i32]) -> Result<(), Refusal> {
 /// Makes 64 coefficients in eighths of 64 exact elements, at the width b.
 ///
 /// `elements` is laid out as [`forward`] writes it, a block's or others within the limit. The coefficient of (u,v),
-/// which stands for eight times the DCT value, is written at index 8u+v of `coefficients`. It is (N + 2^b) / 2^(b+1),
-/// rounded down, where N is 2^b·u_0 + m_1·u_1 + ... + m_7·u_7 and m_k is the whole number nearest to 2^b·c_k. It is never
-/// further than 1/2 + 65,536/2^b from half of the element's exact value.
+/// which stands for eight times the DCT value, is written at index 8u+v of `coefficients`. It is the whole number
+/// nearest to N / 2^(b+1), where N is 2^b·u_0 + m_1·u_1 + ... + m_7·u_7 and m_k is the whole number nearest to 2^b·c_k; a
+/// half goes away from zero, so that elements with all components negated give all coefficients negated. A coefficient
+/// is never further than 1/2 + 65,536/2^b from half of its element's exact value.
 ///
 /// # Errors
 ///
@@ -313,6 +314,9 @@ pub fn back(elements: &[i32], samples: &mut [i32]) -> Result<(), Refusal> {
 /// elements[2] = 256;
 /// round(&elements, 11, &mut coefficients)?;
 /// assert_eq!(coefficients[0], 237);
+/// elements[2] = -256;
+/// round(&elements, 11, &mut coefficients)?;
+/// assert_eq!(coefficients[0], -237);
 /// assert_eq!(round(&elements, 12, &mut coefficients), Err(Refusal::Width));
 /// # Ok::<(), Refusal>(())
 /// ```
@@ -468,7 +472,8 @@ pub fn dequantize(
 /// are at least 1 and their product is at most 128.
 ///
 /// As many words are written to `output`: a head of kind 4 with the same sizes, for each block 64 words of kind 3, each
-/// a coefficient in 28-bit two's complement, and the same end word. Words beyond them stay as they were. `scratch` has
+/// a coefficient in 28-bit two's complement as [`round`] gives it at b, and the same end word. Words beyond them stay as
+/// they were. A sheet with all samples negated, where these are in range, gives all coefficients negated. `scratch` has
 /// the elements of the last block afterwards.
 ///
 /// # Errors

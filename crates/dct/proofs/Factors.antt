@@ -1,16 +1,17 @@
--- The factors: with all of their components, their products, and by the digits of their indices.
+-- The factors: with all of their components, their products, and by the digits of their indices; the elements of a multiple of a block.
 -- Assumes nothing.
-use mathlib.Core.Path.{_≡_, ap}
+use mathlib.Core.Path.{_≡_, sym, ap, _∙_}
 use mathlib.Core.List.{List, []}
 use Prim.Native.Nat.{ℕ, zero, suc, _+_, _*_, _/_, _%_, _^_, _<_}
 use native.Mathlib.Nat.{pow-suc, one-le-pow, zero-lt-suc}
 use native.Mathlib.Omega.{arith}
-use lib.IntN.{ℤ, pos, _+ℤ_, _-ℤ_}
+use lib.IntN.{ℤ, pos, _+ℤ_, _-ℤ_, _*ℤ_}
 use Rattle.integers.specs.Sum.{sum}
 use Rattle.integers.proofs.Sums.{CommutativeMonoid, sum-blocks, sum-cong}
 use Rattle.ring.specs.Element.{add, scale, cosine, mul}
 use Rattle.ring.proofs.Components.{Eight, eight-only, eight-cosine, eight-scale, eight-sum, eight-mul}
 use Rattle.ring.proofs.Cosines.{cosine-product}
+use Rattle.ring.proofs.Linear.{linear-scale, linear-sum, scale-scale}
 use Rattle.dct.specs.Transform.{angle, factor, factors, element, step}
 
 pub eight-factor : (k n : ℕ) → Eight (factor k n)
@@ -29,6 +30,13 @@ some-sample d = one-le-pow d 8 (zero-lt-suc 7)
 pub eight-element : (d : ℕ) (x : ℕ → ℤ) (p : ℕ) → Eight (element d x p)
 unfolding element
 eight-element d x p = eight-sum (8 ^ d) (λ q. scale (x q) (factors d p q)) (some-sample d) (λ q h. eight-scale (x q) (eight-factors d p q))
+
+-- a block whose samples are s times those of another has s times its elements
+pub element-multiple : (d : ℕ) (s : ℤ) (x y : ℕ → ℤ) → ((q : ℕ) → q < 8 ^ d → y q ≡ s *ℤ x q) → (p : ℕ) → element d y p ≡ scale s (element d x p)
+unfolding element
+element-multiple d s x y same p =
+    sum-cong [] add (8 ^ d) _ _ (λ q h. ap (λ z. scale z (factors d p q)) (same q h) ∙ sym (scale-scale s (x q) (factors d p q)))
+    ∙ sym (linear-sum (scale s) (linear-scale s) (8 ^ d) (λ q. scale (x q) (factors d p q)))
 
 -- the step of a row
 

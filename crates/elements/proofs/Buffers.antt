@@ -18,6 +18,13 @@ use Rattle.ring.specs.Element.{component}
 use Rattle.ring.proofs.Components.{Eight, by-components}
 use Rattle.elements.specs.Buffer.{element-at, put}
 
+-- number i of a buffer is a component of one of its elements
+pub number-at : (l : List ℤ) (i : ℕ) → component (element-at l (i / 8)) (i % 8) ≡ getD l i (pos 0)
+unfolding element-at
+number-at l i =
+    let index : 8 * (i / 8) + i % 8 ≡ i = omega arith in
+    getD-table 8 (λ k. getD l (8 * (i / 8) + k) (pos 0)) (pos 0) (i % 8) (omega arith) ∙ ap (λ i. getD l i (pos 0)) index
+
 -- the first k components of u are stored as those of element p of l, which was l₀
 pub record Stored (l₀ : List ℤ) (p : ℕ) (u : List ℤ) (k : ℕ) (l : List ℤ) : Type 0 where
   pub size : length l ≡ length l₀

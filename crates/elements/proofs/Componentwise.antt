@@ -14,16 +14,15 @@ use lib.Seq.{getD-set-same, getD-set-other}
 use borrow.Author.Tests.{eq-eqb, ne-eqb}
 use Rattle.integers.specs.Sum.{sum}
 use Rattle.integers.specs.Table.{table}
-use Rattle.integers.proofs.Integer.{minus-one-*ℤ}
 use Rattle.integers.proofs.Magnitudes.{natAbs-add, natAbs-sub}
 use Rattle.integers.proofs.Tables.{is-table}
-use Rattle.ring.specs.Element.{component, add, scale, subtract, only}
-use Rattle.ring.proofs.Components.{Eight, eight-add, eight-scale, component-add, component-scale}
+use Rattle.ring.specs.Element.{component, add, negate, subtract, only}
+use Rattle.ring.proofs.Components.{Eight, eight-add, eight-scale, component-add, component-negate}
 use Rattle.elements.specs.Bound.{Within}
 
 component-subtract : (a b : List ℤ) (k : ℕ) → component (subtract a b) k ≡ component a k -ℤ component b k
 component-subtract a b k =
-    component-add a (scale (negsuc 0) b) k ∙ ap (λ z. component a k +ℤ z) (component-scale (negsuc 0) b k ∙ minus-one-*ℤ (component b k))
+    component-add a (negate b) k ∙ ap (λ z. component a k +ℤ z) (component-negate b k)
 
 -- an operation that goes by components, and how far it lets them grow
 module _ (of : List ℤ → List ℤ → List ℤ) (op : ℤ → ℤ → ℤ) (by : (a b : List ℤ) (k : ℕ) → component (of a b) k ≡ op (component a k) (component b k)) where

@@ -2,9 +2,9 @@
 -- Assumes nothing.
 use mathlib.Core.Path.{_≡_, ap}
 use Prim.Native.Nat.{ℕ, suc, _+_, _*_, _-_, _/_, _≤_, _<_}
-use native.Mathlib.Nat.{mul-div-le, lt-mul-div-succ, mul-div-right, div-eq-of-lt-le}
+use native.Mathlib.Nat.{mul-div-le, lt-mul-div-succ, mul-div-right, div-eq-of-lt-le, div-le-self}
 use native.Mathlib.Omega.{arith}
-use lib.IntN.{ℤ, pos, negsuc, _+ℤ_, _*ℤ_}
+use lib.IntN.{ℤ, pos, negsuc, _+ℤ_, _*ℤ_, natAbs}
 use lib.Signed.{_≤ℤ_, _<ℤ_, shrZ}
 use Rattle.integers.proofs.Integer.{up, down, as-dif, dif-le, dif-lt, difs}
 
@@ -26,3 +26,8 @@ shrZ-exact m (pos a) h = ap pos (mul-div-right a h)
 shrZ-exact m (negsuc a) h =
     let e : m * suc a ≡ suc (a * m + (m - 1)) = omega arith in
     rw e (ap negsuc (div-eq-of-lt-le m (omega arith) (omega arith)))
+
+-- it makes no number larger
+pub shrZ-small : (z : ℤ) (m : ℕ) → natAbs (shrZ z m) ≤ natAbs z
+shrZ-small (pos a) m = div-le-self a m
+shrZ-small (negsuc a) m = omega (arith, div-le-self a m)

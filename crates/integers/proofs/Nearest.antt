@@ -1,13 +1,14 @@
--- The whole number nearest to z/D: what nearness alone gives; that a rule for halves leaves one number; that each formula gives it.
+-- The whole number nearest to z/D: what nearness alone gives; that the rule for halves leaves one number; that the formula gives it; and how a
+-- shift does.
 -- Assumes nothing.
-use mathlib.Core.Path.{_≡_, sym, ap, ap₂, _∙_}
+use mathlib.Core.Path.{_≡_, refl, sym, ap, ap₂, _∙_}
 use mathlib.Core.Logic.{_↔_}
-use Prim.Native.Nat.{ℕ, suc, _+_, _*_, _-_, _/_, _≤_, _<_}
-use native.Mathlib.Nat.{le-refl, lt-of-not-le, le-of-suc-le-suc, mul-le-mul-left, eq-of-mul-eq-mul-left, mul-div-le, lt-mul-div-succ, zero-lt-suc}
+use Prim.Native.Nat.{ℕ, zero, suc, _+_, _*_, _-_, _/_, _≤_, _<_}
+use native.Mathlib.Nat.{le-refl, lt-of-not-le, le-of-suc-le-suc, mul-le-mul-left, eq-of-mul-eq-mul-left, mul-div-le, lt-mul-div-succ, add-div-right, div-div-eq-div-mul, zero-lt-suc}
 use native.Mathlib.Omega.{arith}
 use lib.Dec.{leb→le, ltb→lt}
 use lib.IntN.{ℤ, pos, negsuc, _+ℤ_, _-ℤ_, _*ℤ_, negℤ, natAbs, negℤ-negℤ, -ℤ-+ℤ-cancel}
-use lib.Signed.{_≤ℤ_, _<ℤ_, clashℤ}
+use lib.Signed.{_≤ℤ_, _<ℤ_, shrZ}
 use Rattle.integers.specs.Nearest.{Nearest, Rounded, Up, Away, half-up, half-away}
 use Rattle.integers.proofs.Integer.{dif, up, down, as-dif, add-parts, dif-same, dif-neg, dif-le, dif-lt, dif-natAbs, difs, negℤ-≤ℤ, *ℤ-negℤ, ≤ℤ-antisym}
 use Rattle.integers.proofs.Magnitudes.{natAbs-neg, natAbs-mul, natAbs-add}
@@ -58,9 +59,6 @@ module _ {rule : ℤ → ℤ → Type 0} (decides : Decides rule) {z : ℤ} {D :
   pub only : {q r : ℤ} → Rounded rule z D q → Rounded rule z D r → q ≡ r
   only Q R = ≤ℤ-antisym (not-above Q R) (not-above R Q)
 
-up-decides : Decides Up
-up-decides z q D low high a b = clashℤ a low
-
 at-least : (c : ℕ) (z : ℤ) → pos c ≤ℤ z → c ≤ natAbs z
 at-least c (pos n) h = leb→le c n (h .le)
 at-least c (negsuc n) h = absurd (h .le)
@@ -101,9 +99,6 @@ module _ {D : ℕ} (positive : 0 < D) where
       let (low, high) = rounded-down (z +ℤ pos (D / 2)) D positive in
       floor-rounded z _ D (D / 2) (mul-div-le D 2) (lt-mul-div-succ D (zero-lt-suc 1)) low high
 
-  pub only-half-up : {z q : ℤ} → Rounded Up z D q → q ≡ half-up z D
-  only-half-up {z} Q = only up-decides positive Q (half-up-rounded z)
-
 -- a half away from zero is mirrored with z
 
 mirrored : (d z q : ℤ) → d *ℤ negℤ q -ℤ negℤ z ≡ negℤ (d *ℤ q -ℤ z)
@@ -139,3 +134,28 @@ module _ {D : ℕ} (positive : 0 < D) where
 
   pub half-away-mirrored : (z : ℤ) → half-away (negℤ z) D ≡ negℤ (half-away z D)
   half-away-mirrored z = sym (only-half-away (mirror (half-away-rounded z)))
+
+-- for D = 2·h, by shifts: z/h rounded down, plus 1, divided by 2 and rounded down; from a negative z first 1 is taken
+
+-- z, less 1 where it is negative
+abbrev pub lowered : ℤ → ℤ
+lowered (pos a) = pos a
+lowered (negsuc a) = negsuc (suc a)
+
+halved : (q : ℕ) → shrZ (negsuc q +ℤ pos 1) 2 ≡ negℤ (pos ((q + 1) / 2))
+halved zero = refl
+halved (suc r) =
+    let e : (suc r + 1) / 2 ≡ suc (r / 2) = omega arith in
+    rw (next (suc r), e)
+
+module _ {D : ℕ} (h : ℕ) (e : D ≡ 2 * h) (p : 0 < h) where
+  quotient : (a : ℕ) → (a + D / 2) / D ≡ (a / h + 1) / 2
+  quotient a =
+      let half : D / 2 ≡ h = omega arith in
+      let divisor : D ≡ h * 2 = omega arith in
+      rw half (ap (λ (n : ℕ). (a + h) / n) divisor ∙ sym (div-div-eq-div-mul (a + h) h 2) ∙ ap (λ (n : ℕ). n / 2) (add-div-right a p))
+
+  pub half-away-shifted : (z : ℤ) → half-away z D ≡ shrZ (shrZ (lowered z) h +ℤ pos 1) 2
+  unfolding half-away half-up
+  half-away-shifted (pos a) = ap pos (quotient a)
+  half-away-shifted (negsuc a) = ap (λ n. negℤ (pos n)) (quotient (suc a)) ∙ sym (halved (suc a / h))

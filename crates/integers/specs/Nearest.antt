@@ -1,5 +1,5 @@
--- Rounding by what it is: the whole numbers nearest to z/D, which of two is taken at a half, and a formula for each rule. That a formula
--- gives such a number, and that no other is one: `half-up-rounded`, `only-half-up`, `half-away-rounded`, `only-half-away`.
+-- Rounding by what it is: the whole numbers nearest to z/D, and which of two is taken at a half. The rule of the product is `Away`, with the
+-- formula `half-away`; that it gives such a number, and that no other is one: `half-away-rounded`, `only-half-away`.
 use mathlib.Core.Path.{_≡_}
 use Prim.Native.Nat.{ℕ, suc, _*_, _/_, _≤_, _<_}
 use lib.IntN.{ℤ, pos, negsuc, _+ℤ_, _-ℤ_, _*ℤ_, negℤ, natAbs}
@@ -14,11 +14,11 @@ pub record Rounded (rule : ℤ → ℤ → Type 0) (z : ℤ) (D : ℕ) (q : ℤ)
   pub nearest : Nearest z D q
   pub at-half : 2 * natAbs (pos D *ℤ q -ℤ z) ≡ D → rule z (pos D *ℤ q)
 
--- a half goes up
+-- of two numbers the greater is taken
 abbrev pub Up : ℤ → ℤ → Type 0
 Up z w = z <ℤ w
 
--- a half goes away from zero
+-- of two numbers the one further from zero is taken: a half goes away from zero
 abbrev pub Away : ℤ → ℤ → Type 0
 Away z w = natAbs z < natAbs w
 

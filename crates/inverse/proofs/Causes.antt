@@ -3,7 +3,7 @@
 use mathlib.Core.Path.{_≡_, refl, sym, ap, subst, _∙_}
 use mathlib.Core.Bool.{Bool, true, false, not, _&&_}
 use mathlib.Core.List.{List, [], _∷_}
-use Prim.Native.Nat.{ℕ, _+_, _*_, _/_, _%_, _≤_, _<_}
+use Prim.Native.Nat.{ℕ, _/_, _%_, _≤_, _<_}
 use native.Mathlib.Nat.{lt-of-lt-of-le}
 use native.Mathlib.Omega.{arith}
 use lib.Dec.{T, eqb}
@@ -12,12 +12,12 @@ use lib.ListN.{length, getD}
 use borrow.Author.Tests.{lt-ltb, ltb-true, not-true, not-false}
 use Rattle.integers.specs.Search.{any, first}
 use Rattle.integers.proofs.Search.{at-first, first-below}
-use Rattle.integers.proofs.Tables.{getD-table}
 use Rattle.integers.proofs.Tests.{fails}
 use Rattle.limits.specs.Limits.{places, components-size, magnitudes-limit}
-use Rattle.ring.specs.Element.{component, magnitudes}
+use Rattle.ring.specs.Element.{magnitudes}
 use Rattle.ring.proofs.Magnitude.{component-le}
 use Rattle.elements.specs.Buffer.{element-at}
+use Rattle.elements.proofs.Buffers.{number-at}
 use Rattle.answers.specs.Answer as answers
 use Rattle.answers.specs.Answer.{Returned, Cause, Reason, lowest, faulty-at, holds, passes, none-holds, accept, accepted}
 use Rattle.answers.proofs.Causes.{found, not-found, some-reason, only-reason, ends-refused, ends-accepted}
@@ -43,7 +43,6 @@ module _ (e : List ℤ) {p : ℕ} (f : p ≡ first places (above-limit magnitude
 -- a number that is above the limit by itself: its element is above the limit
 
 element-above : (e : List ℤ) → any read-size (λ i. beyond-limit (getD e i (pos 0))) ≡ true → first places (above-limit magnitudes-limit e) < places
-unfolding element-at
 element-above e t = first-below places (above-limit magnitudes-limit e) (i / 8) (omega (arith, below)) (lt-ltb magnitudes-limit (magnitudes (element-at e (i / 8))) sum)
   where
     i : ℕ
@@ -55,13 +54,8 @@ element-above e t = first-below places (above-limit magnitudes-limit e) (i / 8) 
     large : magnitudes-limit < natAbs (getD e i (pos 0))
     large = ltb-true magnitudes-limit (natAbs (getD e i (pos 0))) (at-first read-size (λ i. beyond-limit (getD e i (pos 0))) below)
 
-    same : component (element-at e (i / 8)) (i % 8) ≡ getD e i (pos 0)
-    same =
-        let split : 8 * (i / 8) + i % 8 ≡ i = omega arith in
-        getD-table 8 (λ k. getD e (8 * (i / 8) + k) (pos 0)) (pos 0) (i % 8) (omega arith) ∙ ap (λ (n : ℕ). getD e n (pos 0)) split
-
     sum : magnitudes-limit < magnitudes (element-at e (i / 8))
-    sum = lt-of-lt-of-le large (rw same at (component-le (element-at e (i / 8)) (i % 8)))
+    sum = lt-of-lt-of-le large (rw (number-at e i) at (component-le (element-at e (i / 8)) (i % 8)))
 
 module _ (e s : List ℤ) where
   -- the call returns r and leaves the buffer l

@@ -8,7 +8,7 @@ use native.Mathlib.Omega.{arith}
 use lib.Dec.{lit≤}
 use lib.IntN.{ℤ, pos}
 use lib.ListN.{length, getD}
-use Rattle.integers.proofs.Tables.{is-table, length-table, getD-table, table-ext}
+use Rattle.integers.proofs.Tables.{is-table, length-table, table-ext}
 use Rattle.limits.specs.Limits.{places, components-size, magnitudes-limit}
 use Rattle.ring.specs.Element.{component, scale, magnitudes}
 use Rattle.ring.proofs.Components.{Eight, eight-scale}
@@ -16,7 +16,7 @@ use Rattle.ring.proofs.Linear.{scale-one, scale-scale}
 use Rattle.ring.proofs.Magnitude.{component-le, magnitudes-scale}
 use Rattle.elements.specs.Bound.{Within, headroom}
 use Rattle.elements.specs.Buffer.{element-at}
-use Rattle.elements.proofs.Buffers.{element-stored}
+use Rattle.elements.proofs.Buffers.{element-stored, number-at}
 use Rattle.element_sets.specs.Sets.{AcceptedSet}
 use Rattle.orientations.specs.Orientation.{orientations, source, sign, reoriented-element, reoriented-elements, composed}
 use Rattle.orientations.proofs.Places.{source-below, source-twice, sign-one, composed-source, composed-sign}
@@ -55,13 +55,12 @@ reoriented-set {L} o e h S = record { size = length-reoriented o e; in-limit = �
 
 -- "0 changes nothing"
 pub unchanged : (e : List ℤ) → length e ≡ components-size → reoriented-elements 0 e ≡ e
-unfolding reoriented-elements source sign element-at
+unfolding reoriented-elements source sign
 unchanged e l = sym (is-table (pos 0) e components-size _ l (λ i h. sym (same i h)))
   where
     same : (i : ℕ) → i < components-size → component (reoriented-element 0 e (i / 8)) (i % 8) ≡ getD e i (pos 0)
     same i h =
-        let index : 8 * (i / 8) + i % 8 ≡ i = omega arith in
-        ap (λ a. component a (i % 8)) (scale-one (element-at e (i / 8))) ∙ getD-table 8 (λ k. getD e (8 * (i / 8) + k) (pos 0)) (pos 0) (i % 8) (omega arith) ∙ rw index
+        ap (λ a. component a (i % 8)) (scale-one (element-at e (i / 8))) ∙ number-at e i
 
 -- one orientation after another is the one that the table names
 pub one-after-another : (a b : ℕ) (e : List ℤ) → a < orientations → b < orientations

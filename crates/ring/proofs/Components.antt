@@ -7,17 +7,17 @@ use mathlib.Core.List.{List, [], _∷_}
 use Prim.Native.Nat.{ℕ, zero, suc, _%_, _<_}
 use native.Mathlib.Omega.{arith}
 use lib.Dec.{T, eqb, eqb→eq}
-use lib.IntN.{ℤ, pos, _+ℤ_, _-ℤ_, _*ℤ_, natAbs, +ℤ-idl, +ℤ-idr, *ℤ-zero}
+use lib.IntN.{ℤ, pos, negsuc, _+ℤ_, _-ℤ_, _*ℤ_, negℤ, natAbs, +ℤ-idl, +ℤ-idr, *ℤ-zero}
 use lib.ListN.{length}
 use lib.Seq.{ext-getD}
 use borrow.Author.Tests.{lt-ltb}
 use Rattle.integers.specs.Sum.{sum}
 use Rattle.integers.specs.Table.{table}
 use Rattle.integers.specs.Test.{every, eqList}
-use Rattle.integers.proofs.Integer.{*ℤ-pos1}
-use Rattle.integers.proofs.Tables.{is-table}
+use Rattle.integers.proofs.Integer.{*ℤ-pos1, minus-one-*ℤ}
+use Rattle.integers.proofs.Tables.{is-table, length-table, getD-table}
 use Rattle.integers.proofs.Tests.{every-at, eqList→≡}
-use Rattle.ring.specs.Element.{component, add, scale, only, full-turn, cosine, by-rule, basis-product, combine, mul}
+use Rattle.ring.specs.Element.{component, add, scale, negate, only, full-turn, cosine, by-rule, basis-product, combine, mul}
 use Rattle.ring.proofs.Linear.{Linear, LinearMap, LinearForm, linear-agree, add-nil}
 
 -- elements with all of their components
@@ -32,7 +32,7 @@ length-add n (x ∷ a) [] p q = p
 length-add zero (x ∷ a) (y ∷ b) p q = absurd (omega arith)
 length-add (suc n) (x ∷ a) (y ∷ b) p q = ap suc (length-add n a b (omega arith) (omega arith))
 
-length-scale : (s : ℤ) (a : List ℤ) → length (scale s a) ≡ length a
+pub length-scale : (s : ℤ) (a : List ℤ) → length (scale s a) ≡ length a
 length-scale s [] = refl
 length-scale s (x ∷ a) = ap suc (length-scale s a)
 
@@ -97,6 +97,14 @@ pub component-scale : (s : ℤ) (a : List ℤ) (k : ℕ) → component (scale s 
 component-scale s [] k = sym (*ℤ-zero s)
 component-scale s (x ∷ a) zero = refl
 component-scale s (x ∷ a) (suc k) = component-scale s a k
+
+pub component-negate : (a : List ℤ) (k : ℕ) → component (negate a) k ≡ negℤ (component a k)
+component-negate a k = component-scale (negsuc 0) a k ∙ minus-one-*ℤ (component a k)
+
+pub negate-table : (n : ℕ) (f g : ℕ → ℤ) → ((k : ℕ) → k < n → g k ≡ negℤ (f k)) → table n g ≡ negate (table n f)
+negate-table n f g opposite =
+    sym (is-table (pos 0) (negate (table n f)) n g (length-scale (negsuc 0) (table n f) ∙ length-table n f)
+    (λ k h. component-negate (table n f) k ∙ ap negℤ (getD-table n f (pos 0) k h) ∙ sym (opposite k h)))
 
 -- a component of a linear map's value is a linear form
 pub form-component : (L : List ℤ → List ℤ) → LinearMap L → (k : ℕ) → LinearForm (λ a. component (L a) k)

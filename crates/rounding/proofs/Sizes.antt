@@ -106,6 +106,6 @@ module _ {b : ℕ} {m u : List ℤ} (B : Sized b m u) where
   pub coefficient-fits : SFits w32 (coefficient halvings b m u)
   coefficient-fits = small-fits w32 (coefficient halvings b m u) (lt-of-le-of-lt coefficient-small (lit< tt))
 
-  -- the sum that the code shifts
-  pub rounded-small : natAbs (numerator b m u +ℤ pos (2 ^ b)) ≤ largest + 2 ^ 26
-  rounded-small = omega (arith, natAbs-add (numerator b m u) (pos (2 ^ b)), rw (partial-all b m u) at (partial-small 7 (le-refl 7)), pow-mono (B .width-bound))
+  -- the numerator
+  pub numerator-small : natAbs (numerator b m u) ≤ largest
+  numerator-small = rw (partial-all b m u) at (partial-small 7 (le-refl 7))

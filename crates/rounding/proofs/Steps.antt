@@ -1,25 +1,27 @@
--- The code's own sums and its shift, read from their bits: each fits, and is what the formula says.
+-- The code's own sums and its shifts, read from their bits: each fits, and is what the formula says.
 -- Assumes nothing.
 use mathlib.Core.Path.{_≡_, sym, ap, ap₂, _∙_}
 use mathlib.Core.List.{List}
-use Prim.Native.Nat.{ℕ, suc, _+_, _^_, _≤_, _<_, zero-le}
-use native.Mathlib.Nat.{le-refl, lt-of-le-of-lt}
+use Prim.Native.Nat.{ℕ, suc, _+_, _/_, _^_, _≤_, _<_, zero-le}
+use native.Mathlib.Nat.{lt-of-le-of-lt, add-zero, div-eq-of-lt}
 use native.Mathlib.Numerals.{add-one}
+use native.Mathlib.Omega.{arith}
 use lib.Dec.{lit<}
-use lib.IntN.{ℤ, pos, _+ℤ_, _*ℤ_, natAbs, +ℤ-idl}
-use lib.Pow.{pow-mono}
+use lib.IntN.{ℤ, pos, negsuc, _+ℤ_, _*ℤ_, natAbs, +ℤ-idl, +ℤ-idr}
+use lib.Pow.{pow-mono, pow-pos}
 use lib.Signed.{shrZ}
 use mir.Syntax.{w32, w64}
 use mir.Val.{SFits, toZ}
-use mir.Facts.{sfits-widen}
-use Rattle.integers.proofs.Magnitudes.{small-fits}
-use Rattle.integers.proofs.Signed.{in32, in64, kept, read-i32, read-i64}
+use Rattle.integers.proofs.Division.{shrZ-small}
+use Rattle.integers.proofs.Magnitudes.{natAbs-add, small-fits}
+use Rattle.integers.proofs.Nearest.{lowered, half-away-shifted}
+use Rattle.integers.proofs.Signed.{in32, in64, kept, read-i32, shift-kept}
 use Rattle.ring.specs.Element.{component}
 use Rattle.limits.specs.Limits.{halvings}
 use Rattle.rounding_error.specs.Width.{numerator, coefficient}
-use Rattle.rounding_error.proofs.Coefficient.{coefficient-shifted}
-use Rattle.rounding.proofs.Sizes.{largest, Sized, partial, partial-none, partial-more, partial-all}
-use Rattle.rounding.proofs.Sizes.{partial-small, term-small, number-less, component-small, rounded-small, coefficient-fits}
+use Rattle.rounding_error.proofs.Bounds.{double}
+use Rattle.rounding.proofs.Sizes.{largest, Sized, partial, partial-none, partial-more}
+use Rattle.rounding.proofs.Sizes.{partial-small, term-small, number-less, component-small, numerator-small, coefficient-fits}
 
 -- s + x·y is v, and the product and the sum fit
 pub record ProductAdded (s x y v : ℤ) : Type 0 where
@@ -37,6 +39,17 @@ module _ {s x y v : ℤ} (S : ProductAdded s x y v) where
   -- the result r of the step, as it is read back
   pub step-kept : {r : ℤ} → r ≡ s +ℤ x *ℤ y → in64 r ≡ v
   step-kept e = rw (e, S .value) (kept w64 v (lt-of-le-of-lt (S .value-small) (lit< tt)))
+
+-- a shift by 63 gives the sign: -1 or 0
+lowered-sum : (z : ℤ) → natAbs z < 2 ^ 63 → z +ℤ shrZ z (2 ^ 63) ≡ lowered z
+lowered-sum (pos a) h = rw (div-eq-of-lt h) (+ℤ-idr (pos a))
+lowered-sum (negsuc a) h =
+    let e : a / 2 ^ 63 ≡ 0 = div-eq-of-lt (omega arith) in
+    rw (e, add-zero)
+
+lowered-small : (z : ℤ) → natAbs (lowered z) ≤ natAbs z + 1
+lowered-small (pos a) = omega arith
+lowered-small (negsuc a) = omega arith
 
 module _ {b : ℕ} {m u : List ℤ} (B : Sized b m u) where
   read : (k : ℕ) → in32 (component u k) ≡ component u k
@@ -64,31 +77,63 @@ module _ {b : ℕ} {m u : List ℤ} (B : Sized b m u) where
         value-small = rw (add-one k) (partial-small B (suc k) h);
       }
 
-  -- the shift of the numerator n and the power p
+  -- the numerator n, less 1 where it is negative; twice the quotient; and the coefficient
 
-  module _ {n p : ℤ} (e : n ≡ numerator b m u) (f : p ≡ pos (2 ^ b)) where
-    numerator-kept : in64 n ≡ numerator b m u
-    numerator-kept = kept w64 n (rw (e, ← partial-all b m u) (lt-of-le-of-lt (partial-small B 7 (le-refl 7)) (lit< tt))) ∙ e
+  module _ {n : ℤ} (e : n ≡ numerator b m u) where
+    abbrev N : ℤ
+    N = numerator b m u
 
-    rounded-fits : SFits w64 (numerator b m u +ℤ pos (2 ^ b))
-    rounded-fits = small-fits w64 (numerator b m u +ℤ pos (2 ^ b)) (lt-of-le-of-lt (rounded-small B) (lit< tt))
+    below : natAbs N < 2 ^ 63
+    below = lt-of-le-of-lt (numerator-small B) (lit< tt)
 
-    sum-kept : in64 n +ℤ in64 p ≡ numerator b m u +ℤ pos (2 ^ b)
-    sum-kept = ap₂ _+ℤ_ numerator-kept (power-kept f)
+    kept-N : in64 n ≡ N
+    kept-N = kept w64 n (rw e below) ∙ e
 
-    pub sum-fits : SFits w64 (in64 n +ℤ in64 p)
-    sum-fits = rw sum-kept rounded-fits
+    abbrev sign : ℤ
+    sign = in64 (shrZ (in64 n) (2 ^ 63))
 
-    shift-kept : in64 (shrZ (in64 (in64 n +ℤ in64 p)) (2 ^ (b + 1))) ≡ coefficient halvings b m u
-    shift-kept =
-        rw (sum-kept, read-i64 (numerator b m u +ℤ pos (2 ^ b)) rounded-fits, ← coefficient-shifted b m u)
-        (read-i64 (coefficient halvings b m u) (sfits-widen tt (coefficient-fits B)))
+    sign-kept : sign ≡ shrZ N (2 ^ 63)
+    sign-kept = shift-kept w64 n (2 ^ 63) (rw e (small-fits w64 N below)) ∙ ap (λ z. shrZ z (2 ^ 63)) e
 
-    pub shift-fits : SFits w32 (in64 (shrZ (in64 (in64 n +ℤ in64 p)) (2 ^ (b + 1))))
-    shift-fits = rw shift-kept (coefficient-fits B)
+    sum-kept : in64 n +ℤ sign ≡ lowered N
+    sum-kept = ap₂ _+ℤ_ kept-N sign-kept ∙ lowered-sum N below
 
-    pub shift-read : in32 (in64 (shrZ (in64 (in64 n +ℤ in64 p)) (2 ^ (b + 1)))) ≡ coefficient halvings b m u
-    shift-read = rw shift-kept (read-i32 (coefficient halvings b m u) (coefficient-fits B))
+    lowered-fits : SFits w64 (lowered N)
+    lowered-fits =
+        let small : natAbs (lowered N) ≤ largest + 1 = omega (arith, lowered-small N, numerator-small B) in
+        small-fits w64 (lowered N) (lt-of-le-of-lt small (lit< tt))
+
+    pub sum-fits : SFits w64 (in64 n +ℤ sign)
+    sum-fits = rw sum-kept lowered-fits
+
+    abbrev twice : ℤ
+    twice = in64 (shrZ (in64 (in64 n +ℤ sign)) (2 ^ b))
+
+    twice-kept : twice ≡ shrZ (lowered N) (2 ^ b)
+    twice-kept = rw sum-kept (shift-kept w64 (lowered N) (2 ^ b) lowered-fits)
+
+    more-fits : SFits w64 (shrZ (lowered N) (2 ^ b) +ℤ pos 1)
+    more-fits =
+        let q = shrZ (lowered N) (2 ^ b) in
+        let small : natAbs (q +ℤ pos 1) ≤ largest + 2 = omega (arith, natAbs-add q (pos 1), shrZ-small (lowered N) (2 ^ b), lowered-small N, numerator-small B) in
+        small-fits w64 (q +ℤ pos 1) (lt-of-le-of-lt small (lit< tt))
+
+    pub one-more-fits : SFits w64 (twice +ℤ pos 1)
+    one-more-fits = rw twice-kept more-fits
+
+    abbrev rounded : ℤ
+    rounded = in64 (shrZ (in64 (twice +ℤ pos 1)) (2 ^ 1))
+
+    rounded-kept : rounded ≡ coefficient halvings b m u
+    unfolding coefficient
+    rounded-kept =
+        rw twice-kept (shift-kept w64 (shrZ (lowered N) (2 ^ b) +ℤ pos 1) 2 more-fits ∙ sym (half-away-shifted (2 ^ b) (double b) (pow-pos b) N))
+
+    pub rounded-fits : SFits w32 rounded
+    rounded-fits = rw rounded-kept (coefficient-fits B)
+
+    pub rounded-read : in32 rounded ≡ coefficient halvings b m u
+    rounded-read = rw rounded-kept (read-i32 (coefficient halvings b m u) (coefficient-fits B))
 
   -- the coefficient r of a call, as it is stored
   pub coefficient-kept : {r : ℤ} → r ≡ coefficient halvings b m u → in32 r ≡ coefficient halvings b m u

@@ -133,14 +133,16 @@ fn numerator(u: Element, b: u32, numbers: [i64; 7]) -> i64
     sum_of_terms(u, b, numbers, 0, 1)
 }
 
-// (N + 2^b) divided by 2^(b+1), rounded down: `>>` on an i64 rounds down.
+// The whole number nearest to N/2^(b+1); a half goes away from zero. Twice that quotient, rounded down, plus 1, divided by 2 and rounded down, is the
+// nearest number, at a half the upper one. From a negative N first 1 is taken, since `n >> 63` is -1 for it and 0 for others: its half then goes down,
+// and nothing else changes.
 fn coefficient(u: Element, b: u32, numbers: [i64; 7]) -> i32
     requires { ⌜ Allowed b numbers (u .components) ⌝ }
     ensures { λ r. ⌜ r ≡ widths.coefficient halvings b numbers (u .components) ⌝ }
 {
     let n = numerator(u, b, numbers);
-    let half = power_of_two(b);
-    let y = (n + half) >> (b + 1);
+    let twice = (n + (n >> 63)) >> b;
+    let y = (twice + 1) >> 1;
     y as i32
 }
 

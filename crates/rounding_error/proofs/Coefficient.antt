@@ -1,30 +1,51 @@
--- What the coefficient is, in 01's words and as a nearest number. Other laws ask no more of it than to be nearest: only this file and the
--- proof of the code know where a half goes.
+-- What the coefficient is: a nearest number, by the rule for halves. The error law and the sizes ask no more of it than to be nearest, and do not know
+-- where a half goes.
 -- Assumes nothing.
-use mathlib.Core.Path.{_≡_, ap}
+use mathlib.Core.Path.{_≡_, refl, sym, ap, ap₂, _∙_}
 use mathlib.Core.List.{List}
-use Prim.Native.Nat.{ℕ, _+_, _*_, _^_, _≤_}
-use native.Mathlib.Nat.{mul-div-right, zero-lt-suc}
-use lib.IntN.{ℤ, pos, _+ℤ_}
+use Prim.Native.Nat.{ℕ, suc, _+_, _*_, _^_, _≤_}
+use lib.IntN.{ℤ, pos, _+ℤ_, _*ℤ_, negℤ, negℤ-+ℤ}
 use lib.Pow.{pow-pos}
-use lib.Signed.{shrZ}
-use Rattle.integers.specs.Nearest.{Rounded, Up, half-up}
-use Rattle.integers.proofs.Nearest.{half-up-rounded}
-use Rattle.ring.specs.Element.{magnitudes}
+use Rattle.integers.specs.Nearest.{Rounded, Away, half-away}
+use Rattle.integers.specs.Sum.{sum}
+use Rattle.integers.proofs.Integer.{*ℤ-negℤ}
+use Rattle.integers.proofs.Nearest.{half-away-rounded, only-half-away, half-away-mirrored}
+use Rattle.integers.proofs.Sums.{sum-cong, sum-map}
+use Rattle.ring.specs.Element.{component, negate, magnitudes}
+use Rattle.ring.proofs.Components.{component-negate}
 use Rattle.rounding_error.specs.Value.{Near}
 use Rattle.rounding_error.specs.Width.{TableAt, numerator, coefficient, distance}
-use Rattle.rounding_error.proofs.Bounds.{double}
 use Rattle.rounding_error.proofs.Error.{near}
 
--- "(N + 2^b) divided by 2^(b+1), rounded down: a half goes up"
-pub coefficient-shifted : (b : ℕ) (m u : List ℤ) → coefficient 1 b m u ≡ shrZ (numerator b m u +ℤ pos (2 ^ b)) (2 ^ (b + 1))
-unfolding coefficient half-up
-coefficient-shifted b m u = ap (λ h. shrZ (numerator b m u +ℤ pos h) (2 ^ (b + 1))) (rw (double b) (mul-div-right (2 ^ b) (zero-lt-suc 1)))
-
 module _ (s b : ℕ) (m u : List ℤ) where
-  pub coefficient-rounded : Rounded Up (numerator b m u) (2 ^ (b + s)) (coefficient s b m u)
+  -- "rounding sends a half away from zero", and no other number is rounded so
+  pub coefficient-rounded : Rounded Away (numerator b m u) (2 ^ (b + s)) (coefficient s b m u)
   unfolding coefficient
-  coefficient-rounded = half-up-rounded (pow-pos (b + s)) (numerator b m u)
+  coefficient-rounded = half-away-rounded (pow-pos (b + s)) (numerator b m u)
+
+  pub only-coefficient : {y : ℤ} → Rounded Away (numerator b m u) (2 ^ (b + s)) y → y ≡ coefficient s b m u
+  unfolding coefficient
+  only-coefficient = only-half-away (pow-pos (b + s))
 
   pub coefficient-near : (E : ℕ) → TableAt b m → magnitudes u ≤ 2 ^ (s + 1) * E → Near s (coefficient s b m u) u (distance E b)
   coefficient-near E table small = near s b E m u table small (coefficient s b m u) (coefficient-rounded .nearest)
+
+-- all components negated
+
+product-negated : (x : ℤ) (u : List ℤ) (k : ℕ) → x *ℤ component (negate u) k ≡ negℤ (x *ℤ component u k)
+product-negated x u k = ap (λ z. x *ℤ z) (component-negate u k) ∙ *ℤ-negℤ x (component u k)
+
+numerator-negated : (b : ℕ) (m u : List ℤ) → numerator b m (negate u) ≡ negℤ (numerator b m u)
+unfolding numerator
+numerator-negated b m u =
+    ap₂ _+ℤ_ (product-negated (pos (2 ^ b)) u 0)
+    (sum-cong (pos 0) _+ℤ_ 7 _ _ (λ k h. product-negated (component m k) u (suc k)) ∙ sym (sum-map (pos 0) _+ℤ_ (pos 0) _+ℤ_ negℤ refl negℤ-+ℤ 7 term))
+    ∙ sym (negℤ-+ℤ (pos (2 ^ b) *ℤ component u 0) (sum (pos 0) _+ℤ_ 7 term))
+  where
+    term : ℕ → ℤ
+    term k = component m k *ℤ component u (suc k)
+
+pub coefficient-negated : (s b : ℕ) (m u : List ℤ) → coefficient s b m (negate u) ≡ negℤ (coefficient s b m u)
+unfolding coefficient
+coefficient-negated s b m u =
+    ap (λ n. half-away n (2 ^ (b + s))) (numerator-negated b m u) ∙ half-away-mirrored (pow-pos (b + s)) (numerator b m u)

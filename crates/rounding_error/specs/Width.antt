@@ -5,7 +5,7 @@ use Prim.Native.Nat.{ℕ, suc, _+_, _^_, _<_}
 use lib.Dec.{T, lit<}
 use lib.IntN.{ℤ, pos, _+ℤ_, _-ℤ_, _*ℤ_}
 use lib.Pow.{pow-pos}
-use Rattle.integers.specs.Nearest.{half-up}
+use Rattle.integers.specs.Nearest.{half-away}
 use Rattle.integers.specs.Sum.{sum}
 use Rattle.ring.specs.Element.{component}
 use Rattle.rounding_error.specs.Fraction.{Fraction, plus}
@@ -27,10 +27,9 @@ pub record TableAt (b : ℕ) (m : List ℤ) : Type 0 where
 unfoldable pub numerator : ℕ → List ℤ → List ℤ → ℤ
 numerator b m u = pos (2 ^ b) *ℤ component u 0 +ℤ sum (pos 0) _+ℤ_ 7 (λ k. component m k *ℤ component u (suc k))
 
--- the coefficient, for the 2^s-th part of an element's value: the whole number nearest to N/2^(b+s), where a half goes up. With s = 1 it is
--- (N + 2^b) divided by 2^(b+1), rounded down: `coefficient-shifted`
+-- the coefficient, for the 2^s-th part of an element's value: the whole number nearest to N/2^(b+s), where a half goes away from zero (02, request 3)
 unfoldable pub coefficient : ℕ → ℕ → List ℤ → List ℤ → ℤ
-coefficient s b m u = half-up (numerator b m u) (2 ^ (b + s))
+coefficient s b m u = half-away (numerator b m u) (2 ^ (b + s))
 
 -- the distance of demand 3, 1/2 + E/2^b, for a limit 2^(s+1)·E of the magnitudes' sum: 4·E with s = 1
 abbrev pub distance : ℕ → ℕ → Fraction

@@ -1,3 +1,4 @@
 -- The laws of the sheet job.
 pub mod Causes
 pub mod Meaning
+pub mod Opposite

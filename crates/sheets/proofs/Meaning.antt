@@ -55,7 +55,7 @@ module _ (words : List ℕ) (b : ℕ) (scratch : List ℤ) (output : List ℕ) (
   abbrev left-at : ℕ → ℕ
   left-at = word-at (sheet-output words b scratch output)
 
-  word-left : (i : ℕ) → i < length words → left-at i ≡ output-word b words i
+  pub word-left : (i : ℕ) → i < length words → left-at i ≡ output-word b words i
   unfolding coefficient-sheet
   word-left i h =
       rw written-over

@@ -1,6 +1,6 @@
-// Runs 01's examples through forward, back, rounding and the sheet job, and some more calls of their kind, and prints what each returns and leaves;
-// the file stdout has what 01 says, or what follows from its rules. A line has the number and the place that the call returns, and then some
-// numbers of its buffers, which held 7 before; words are in hexadecimal.
+// Runs 01's examples, as changed by 02, through forward, back, rounding and the sheet job, and some more calls of their kind, and prints what each
+// returns and leaves; the file stdout has what the papers say, or what follows from their rules. A line has the number and the place that the call
+// returns, and then some numbers of its buffers, which held 7 before; words are in hexadecimal.
 ghost use Prim.Native.Nat.{_<_};
 use answers::Answer;
 use inverse::back;

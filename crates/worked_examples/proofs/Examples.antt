@@ -2,7 +2,7 @@
 -- Assumes nothing.
 use mathlib.Core.Path.{refl}
 use lib.IntN.{pos, negsuc}
-use Rattle.integers.specs.Nearest.{half-up}
+use Rattle.integers.specs.Nearest.{half-up, half-away}
 use Rattle.integers.specs.Sum.{sum}
 use Rattle.ring.specs.Element.{cosine, basis-product, mul}
 use Rattle.dct.specs.Transform.{factor, factors, element}
@@ -19,7 +19,7 @@ a also b = (a, b)
 
 -- each line is computed, but for the blocks whose samples are all the same, of which `constant` speaks; a line here is an example of the table
 pub examples-hold : Hold examples
-unfolding examples cosine mul basis-product sum factor factors element root numerator coefficient half-up table-numbers
+unfolding examples cosine mul basis-product sum factor factors element root numerator coefficient half-up half-away table-numbers
 examples-hold =
     refl also refl also refl also refl
     also refl also refl

@@ -1,4 +1,4 @@
--- The worked examples that 01 stars ("Films to try"): what the definitions give, and what 01 says.
+-- The worked examples that 01 stars ("Films to try"), as changed by 02: what the definitions give, and what the papers say.
 use mathlib.Core.Path.{_≡_}
 use mathlib.Core.Bool.{Bool, true, cond}
 use mathlib.Core.List.{List, [], _∷_}
@@ -53,7 +53,7 @@ at x u v = element 2 (sample x) (8 * u + v)
 abbrev rounded : ℕ → List ℤ → List ℤ
 rounded b u = alone (coefficient halvings b (table-numbers b) u)
 
--- what the definitions give for an example, and what 01 says
+-- what the definitions give for an example, and what the papers say
 infix 10 _is_
 abbrev _is_ : List ℤ → List ℤ → Example
 given is said = record { given = given; said = said }
@@ -91,10 +91,10 @@ examples =
     ∷ (rounded 11 (at one 0 1) is alone (pos 1))
     ∷ (rounded 11 (at one 1 1) is alone (pos 2))
     ∷ (rounded 11 (at one 7 7) is alone (pos 0))
-    -- an element of u_2 = 256 alone, b = 11: N = 968,704, coefficient 237; with -256: -236
+    -- an element of u_2 = 256 alone, b = 11: N = 968,704, coefficient 237; with -256: -237 (02, request 3)
     ∷ (alone (numerator 11 (table-numbers 11) (only (pos 256) 2)) is alone (pos 968704))
     ∷ (rounded 11 (only (pos 256) 2) is alone (pos 237))
-    ∷ (rounded 11 (only (negsuc 255) 2) is alone (negsuc 235))
+    ∷ (rounded 11 (only (negsuc 255) 2) is alone (negsuc 236))
     ∷ []
 
 -- each gives what is said

@@ -1,0 +1,68 @@
+-- What calls leave, in 02's words (request 3): halves away from zero; and, of two calls, that a negative mirrors its positive.
+-- Assumes nothing.
+use mathlib.Core.Path.{_≡_, sym, ap, _∙_}
+use mathlib.Core.List.{List}
+use Prim.Native.Nat.{ℕ, _+_, _^_, _<_}
+use lib.Dec.{T, lit<}
+use lib.IntN.{ℤ, pos}
+use lib.ListN.{length, getD}
+use mir.Syntax.{w32}
+use mir.Val.{SFits}
+use Rattle.integers.specs.Nearest.{Rounded, Away}
+use Rattle.integers.proofs.Tables.{getD-table}
+use Rattle.limits.specs.Limits.{places, places-in, components-size, halvings, halvings-in}
+use Rattle.ring.specs.Element.{negate}
+use Rattle.ring.proofs.Components.{negate-table}
+use Rattle.rounding_error.specs.Width.{numerator, coefficient}
+use Rattle.rounding_error.proofs.Coefficient.{coefficient-rounded, only-coefficient, coefficient-negated}
+use Rattle.elements.specs.Buffer.{element-at}
+use Rattle.answers.specs.Answer.{accept, accepted}
+use Rattle.answers.proofs.Causes.{accepted-leaves}
+use Rattle.element_sets.proofs.Negated.{element-negated, set-negated, negated-fits}
+use Rattle.rounding.specs.Rounding.{coefficient-at, coefficients-of, round-returned, round-coefficients}
+use Rattle.rounding.specs.Tables.{table-numbers}
+use Rattle.rounding.proofs.Blocks.{accepts, accepted-ready}
+
+module _ (e : List ℤ) (b : ℕ) (c : List ℤ) (h : T (accepted (round-returned 2 e b c))) where
+  left : round-coefficients 2 e b c ≡ coefficients-of 2 b e
+  unfolding round-coefficients
+  left = accepted-leaves (round-returned 2 e b c) (coefficients-of 2 b e) c h
+
+  module _ (p : ℕ) (l : p < places) where
+    abbrev N : ℤ
+    N = numerator b (table-numbers b) (element-at e p)
+
+    coefficient-place : getD (round-coefficients 2 e b c) p (pos 0) ≡ coefficient-at 2 b e p
+    coefficient-place = rw left (getD-table places (coefficient-at 2 b e) (pos 0) p l)
+
+    -- N/2^(b+1) to the nearest: "rounding sends a half away from zero"
+    pub rounded-place : Rounded Away N (2 ^ (b + halvings)) (getD (round-coefficients 2 e b c) p (pos 0))
+    rounded-place = rw coefficient-place (coefficient-rounded halvings b (table-numbers b) (element-at e p))
+
+    -- and no other number is so
+    pub only-place : {y : ℤ} → Rounded Away N (2 ^ (b + halvings)) y → y ≡ getD (round-coefficients 2 e b c) p (pos 0)
+    only-place R = only-coefficient halvings b (table-numbers b) (element-at e p) R ∙ sym coefficient-place
+
+-- a set and the set with all components negated
+
+pub coefficients-negated : (d b : ℕ) (e : List ℤ) → coefficients-of d b (negate e) ≡ negate (coefficients-of d b e)
+coefficients-negated d b e =
+    negate-table (places-in d) _ _ (λ p h.
+    ap (coefficient (halvings-in d) b (table-numbers b)) (element-negated e p) ∙ coefficient-negated (halvings-in d) b (table-numbers b) (element-at e p))
+
+-- its numbers too are of 32 bits
+pub negated-numbers : (e : List ℤ) (b : ℕ) (c : List ℤ) → T (accepted (round-returned 2 e b c)) → (i : ℕ) → i < components-size
+    → SFits w32 (getD (negate e) i (pos 0))
+negated-numbers e b c h = negated-fits (accepted-ready e b c h .ready-set) (lit< tt)
+
+-- the second call is at the same b, with any other buffer of 64
+module _ (e : List ℤ) (b : ℕ) (c : List ℤ) (h : T (accepted (round-returned 2 e b c))) (other : List ℤ) (l : length other ≡ places) where
+  -- "an accepted set with all components negated" is accepted
+  pub negated-accepted : round-returned 2 (negate e) b other ≡ accept
+  negated-accepted =
+      let R = accepted-ready e b c h in
+      accepts (record { ready-set = set-negated (R .ready-set); coefficients-length = l; ready-width = R .ready-width })
+
+  -- and "gives all coefficients negated"
+  pub negated-left : round-coefficients 2 (negate e) b other ≡ negate (round-coefficients 2 e b c)
+  negated-left = left (negate e) b other (rw negated-accepted tt) ∙ coefficients-negated 2 b e ∙ ap negate (sym (left e b c h))

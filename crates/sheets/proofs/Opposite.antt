@@ -1,0 +1,111 @@
+-- "A negative must mirror its positive" (02, request 3): what two calls leave, of a sample sheet and of the sheet with all samples negated.
+-- Assumes nothing.
+use mathlib.Core.Path.{_≡_, sym, ap, _∙_}
+use mathlib.Core.Bool.{not, true}
+use mathlib.Core.List.{List}
+use Prim.Native.Nat.{ℕ, suc, _+_, _-_, _*_, _/_, _%_, _≤_, _<_}
+use native.Mathlib.Omega.{arith}
+use lib.Dec.{T}
+use lib.IntN.{ℤ, pos, negℤ}
+use lib.ListN.{length, getD}
+use Rattle.integers.proofs.Tables.{getD-table}
+use Rattle.limits.specs.Limits.{places, components-size, sample-limit, in-range}
+use Rattle.limits.proofs.Range.{outside-range}
+use Rattle.ring.proofs.Components.{component-negate}
+use Rattle.answers.specs.Answer.{accept-words, accepted}
+use Rattle.element_sets.specs.Sets.{elements-of}
+use Rattle.element_sets.proofs.Negated.{elements-negated}
+use Rattle.rounding.specs.Rounding.{coefficients-of}
+use Rattle.rounding.proofs.Meaning.{coefficients-negated}
+use Rattle.words.specs.Word.{coefficient-head-kind, kind, payload, value, word}
+use Rattle.sheet_checks.specs.Check.{sample-format, word-at, blocks}
+use Rattle.sheet_checks.specs.Sheets.{RightSheet}
+use Rattle.sheet_blocks.specs.Preconditions.{Checked}
+use Rattle.sheet_blocks.specs.Blocks.{block, block-coefficients}
+use Rattle.sheet_blocks.proofs.Output.{output-head}
+use Rattle.sheet_blocks.proofs.Samples.{block-words}
+use Rattle.sheets.specs.Opposite.{Opposite}
+use Rattle.sheets.specs.Sheet.{sheet-output, sheet-returned}
+use Rattle.sheets.proofs.Causes.{accepts, accepted-checked}
+use Rattle.sheets.proofs.Meaning.{word-left, coefficient-left, end-left}
+
+-- the second sheet is transformed at the same b, with a scratch of 512 and an output that has room; its samples too are in range
+module _ (v w : List ℕ) (b : ℕ) (s : List ℤ) (o : List ℕ) (a : T (accepted (sheet-returned v b (length s) (length o)))) (O : Opposite (length v) v w)
+    (size : length w ≡ length v) (range : (i : ℕ) → 0 < i → suc i < length v → in-range (value (payload (word-at w i))) ≡ true)
+    (t : List ℤ) (q : List ℕ) (scratch : length t ≡ components-size) (room : length w ≤ length q) where
+  checked : Checked v b (length s) (length o)
+  checked = accepted-checked v b (length s) (length o) a
+
+  right : RightSheet sample-format w
+  right =
+      let S = checked .right in
+      record {
+        right-shape = record {
+          some-words = rw size (S .right-shape .some-words);
+          head-kind = rw (O .same-head) (S .right-shape .head-kind);
+          some-across = rw (O .same-head) (S .right-shape .some-across);
+          some-down = rw (O .same-head) (S .right-shape .some-down);
+          few-blocks = rw (O .same-head) (S .right-shape .few-blocks);
+          count = rw (O .same-head, size) (S .right-shape .count);
+        };
+        body-kind = λ i p l. O .same-kinds i p (rw size at l) ∙ S .body-kind i p (rw size at l);
+        body-range = λ i p l. outside-range (sample-limit - 1) (value (payload (word-at w i))) ∙ ap not (range i p (rw size at l));
+        end-kind = rw (size, O .same-end) (S .end-kind);
+        end-count = rw (size, O .same-end, O .same-head) (S .end-count);
+      }
+
+  -- it is accepted
+  pub negative-accepted : sheet-returned w b (length t) (length q) ≡ accept-words (length w)
+  negative-accepted = accepts w b (length t) (length q) (checked .at-width) right scratch room
+
+  taken : T (accepted (sheet-returned w b (length t) (length q)))
+  taken = rw negative-accepted tt
+
+  -- the coefficients of block k
+  module _ (k : ℕ) (h : k < blocks v) where
+    same-blocks : k < blocks w
+    same-blocks = rw (O .same-head) h
+
+    samples : (i : ℕ) → i < places → getD (block w k) i (pos 0) ≡ negℤ (getD (block v k) i (pos 0))
+    unfolding block
+    samples i l =
+        let words = block-words checked k h in
+        rw (
+          getD-table places (λ i. value (payload (word-at w (1 + places * k + i)))) (pos 0) i l,
+          getD-table places (λ i. value (payload (word-at v (1 + places * k + i)))) (pos 0) i l,
+        )
+        (O .opposite-values (1 + places * k + i) (omega arith) (omega arith))
+
+    coefficients : (p : ℕ) → getD (block-coefficients b w k) p (pos 0) ≡ negℤ (getD (block-coefficients b v k) p (pos 0))
+    unfolding block-coefficients
+    coefficients p =
+        ap (λ e. getD (coefficients-of 2 b e) p (pos 0)) (elements-negated 2 (block v k) (block w k) samples)
+        ∙ ap (λ c. getD c p (pos 0)) (coefficients-negated 2 b (elements-of 2 (block v k)))
+        ∙ component-negate (coefficients-of 2 b (elements-of 2 (block v k))) p
+
+  -- and the two coefficient sheets are opposite
+  pub negative-left : Opposite (length v) (sheet-output v b s o) (sheet-output w b t q)
+  negative-left =
+      record {
+        same-head = head w t q taken ∙ ap (λ h. word coefficient-head-kind (payload h)) (O .same-head) ∙ sym (head v s o a);
+        same-kinds = λ i p l. place i p l .0;
+        opposite-values = λ i p l. place i p l .1;
+        same-end = rw size at (end-left w b t q taken) ∙ O .same-end ∙ sym (end-left v b s o a);
+      }
+    where
+      head : (x : List ℕ) (s : List ℤ) (o : List ℕ) (a : T (accepted (sheet-returned x b (length s) (length o))))
+          → word-at (sheet-output x b s o) 0 ≡ word coefficient-head-kind (payload (word-at x 0))
+      head x s o a = word-left x b s o a 0 (accepted-checked x b (length s) (length o) a .right .right-shape .some-words) ∙ output-head b x
+
+      place : (i : ℕ) → 0 < i → suc i < length v
+          → (kind (word-at (sheet-output w b t q) i) ≡ kind (word-at (sheet-output v b s o) i))
+          × (value (payload (word-at (sheet-output w b t q) i)) ≡ negℤ (value (payload (word-at (sheet-output v b s o) i))))
+      place i p l =
+          let k = (i - 1) / places in
+          let r = (i - 1) % places in
+          let index : 1 + places * k + r ≡ i = omega arith in
+          let h : k < blocks v = omega (arith, checked .right .right-shape .count) in
+          let m : r < places = omega arith in
+          let (kind-w, value-w) = rw index at (coefficient-left w b t q taken k r (same-blocks k h) m) in
+          let (kind-v, value-v) = rw index at (coefficient-left v b s o a k r h m) in
+          (kind-w ∙ sym kind-v, value-w ∙ coefficients k h r ∙ ap negℤ (sym value-v))
