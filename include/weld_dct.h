@@ -1,13 +1,14 @@
 /* The exact 8 by 8 cosine transform for weld radiographs, for C and C++.
  *
  * Every function takes any numbers and buffers of any length. It either does the whole of its work and answers 0, or it answers the number
- * of one refusal with its place, and then every buffer is as it was. That each function does what is said here is proved of its source;
- * docs/CLAIMS.md says where, and docs/TRUST.md what remains to be believed.
+ * of one refusal with its place, and then every buffer is as it was, and any float in the answer is plus zero. That each function does what
+ * is said here is proved of its source; docs/CLAIMS.md says where, and docs/TRUST.md what remains to be believed.
  *
  * A buffer is a pointer and the count of its numbers. What the caller must see to, because no function can look at it: a pointer is valid
  * for its count of numbers, aligned, and not null, even where the count is 0; a buffer that is written overlaps no other buffer of the call.
  * The functions keep no state and may be called from any number of threads at once, each with buffers of its own. They do not allocate, and
- * none takes more than 8 KB of stack, which tests/run measures.
+ * none takes more than 8 KB of stack, which tests/run measures. A float is IEEE 754's binary32. Each that a function gives is exact, and zero is
+ * plus zero.
  *
  * Link libweld_dct.a. It needs memcpy and memset, and nothing else.
  */
@@ -21,8 +22,8 @@
 extern "C" {
 #endif
 
-/* A block has 64 samples, 64 coefficients and 64 quantized values, row by row, 64 quantization steps, in zig-zag order, and 64 elements of
- * eight components each, in 512 numbers. */
+/* A block has 64 samples, 64 coefficients, 64 quantized values and 64 floats, row by row, 64 quantization steps, in zig-zag order, and 64
+ * elements of eight components each, in 512 numbers. */
 #define WELD_DCT_PLACES 64
 #define WELD_DCT_COMPONENTS 512
 
@@ -43,8 +44,8 @@ extern "C" {
 /* A quantization step is at least 1 and at most this. */
 #define WELD_DCT_STEP_LIMIT 1024
 
-/* The largest magnitude of a coefficient that is quantized, and of one that dequantize gives. The second is the first and four times the
- * largest step, which is as far as a coefficient can move on the way there and back. */
+/* The largest magnitude of a coefficient that is quantized or made a float, and of one that dequantize gives. The second is the first and four
+ * times the largest step, which is as far as a coefficient can move on the way there and back. */
 #define WELD_DCT_COEFFICIENT_LIMIT 4194303
 #define WELD_DCT_DEQUANTIZED_LIMIT 4198399
 
@@ -54,28 +55,46 @@ extern "C" {
 
 /* What an answer's number says, and what its place is. */
 enum {
-    WELD_DCT_ACCEPTED = 0,            /* the work is done; place: of a sheet the words written, of two orientations the composed one,
-                                         otherwise 0 */
-    WELD_DCT_REFUSED_LENGTHS = 1,     /* samples, coefficients, steps or quantized values are not 64, elements, read or written, or scratch
-                                         not 512, or a sheet's output is shorter than the sheet; place 0 */
+    WELD_DCT_ACCEPTED = 0,            /* the work is done; place: of a sheet that is transformed the words written, of two orientations the
+                                         composed one, otherwise 0 */
+    WELD_DCT_REFUSED_LENGTHS = 1,     /* samples, coefficients, steps, quantized values or floats are not 64, elements, read or written, or
+                                         scratch not 512, or a sheet's output is shorter than the sheet; place 0 */
     WELD_DCT_REFUSED_SAMPLE = 2,      /* a sample is out of range; place: its index, in a sheet the word's */
     WELD_DCT_REFUSED_WIDTH = 3,       /* b is not 11, 20 or 26; place 0 */
     WELD_DCT_REFUSED_MAGNITUDES = 4,  /* an element's magnitudes sum above the limit; place: its number 8u+v */
     WELD_DCT_REFUSED_NO_BLOCK = 5,    /* no block in range has these elements; place 0 */
-    WELD_DCT_REFUSED_HEAD = 6,        /* a sheet has no words, or its first is not of kind 1, or its sizes are not allowed; place 0 */
+    WELD_DCT_REFUSED_HEAD = 6,        /* a sheet has no words, or its first is not of the kind of its head, 1 for samples and 4 for
+                                         coefficients, or its sizes are not allowed; place 0 */
     WELD_DCT_REFUSED_WORDS = 7,       /* a sheet has a wrong count of words; place: the count. Or a word is of another kind than its place
                                          needs; place: its index, which is below the count */
     WELD_DCT_REFUSED_END = 8,         /* the end word does not hold the number of blocks; place: its index */
     WELD_DCT_REFUSED_ORIENTATION = 9, /* an orientation is above 7; place 0 */
     WELD_DCT_REFUSED_STEP = 10,       /* a quantization step is not from 1 to 1,024; place: its index in the list, in zig-zag order */
-    WELD_DCT_REFUSED_COEFFICIENT = 11 /* a coefficient that is to be quantized, or one that dequantize would give, is beyond its limit;
-                                         place: its index 8u+v */
+    WELD_DCT_REFUSED_COEFFICIENT = 11 /* a coefficient that is to be quantized or made a float, or one that dequantize would give, is beyond
+                                         its limit; place: its index 8u+v, in a sheet the word's */
 };
 
 /* Where more than one sample, element, word, step or coefficient has a fault, the place is the lowest. */
 struct weld_dct_answer {
     uint32_t number;
     size_t place;
+};
+
+/* What summary answers: textured is 1 for a textured block, and 0 for a flat one, of which largest is 0. */
+struct weld_dct_summary_answer {
+    uint32_t number;
+    size_t place;
+    uint32_t textured;
+    float mean;
+    float largest;
+};
+
+/* What sheet_range answers: the lowest and the highest float. */
+struct weld_dct_range_answer {
+    uint32_t number;
+    size_t place;
+    float lowest;
+    float highest;
 };
 
 /* Forward: the 64 exact elements of a block.
@@ -140,6 +159,23 @@ struct weld_dct_answer weld_dct_quantize(const int32_t *coefficients, size_t n, 
 struct weld_dct_answer weld_dct_dequantize(const int32_t *quantized, size_t n, const uint32_t *steps, size_t k, int32_t *coefficients,
                                            size_t m);
 
+/* To floats: 64 floats, from 64 coefficients in eighths.
+ *
+ * coefficients: 64 numbers, the one of (u,v) at index 8u+v, as round lays them out. floats: exactly 64. At each index is written the
+ * coefficient over 8, exactly.
+ * Refuses, in this order: WELD_DCT_REFUSED_LENGTHS, n or m not 64; WELD_DCT_REFUSED_COEFFICIENT, a coefficient is beyond 4,194,303 in
+ * magnitude. */
+struct weld_dct_answer weld_dct_to_floats(const int32_t *coefficients, size_t n, float *floats, size_t m);
+
+/* Summary: whether a block is flat or textured, with its mean grey and its largest other coefficient.
+ *
+ * coefficients: 64 numbers in eighths, the one of (u,v) at index 8u+v, as round lays them out. A block is flat if all but the first are 0.
+ * The mean is the first over 64, of any sign. largest is, for a textured block, the one of largest magnitude among the other 63, of
+ * equal magnitudes the one of the lowest index, over 8 and with its sign; and for a flat block 0. An accepted call answers 0 and place 0.
+ * Refuses, in this order: WELD_DCT_REFUSED_LENGTHS, n not 64; WELD_DCT_REFUSED_COEFFICIENT, a coefficient is beyond 4,194,303 in
+ * magnitude. textured is then 0. */
+struct weld_dct_summary_answer weld_dct_summary(const int32_t *coefficients, size_t n);
+
 /* Sheet: a sheet of sample words to a sheet of coefficient words, at the width b.
  *
  * A word has its kind in its top four bits and a payload in the other 28. words: a head of kind 1, blocks across in bits 27 to 14 and
@@ -153,6 +189,15 @@ struct weld_dct_answer weld_dct_dequantize(const int32_t *quantized, size_t n, c
  * k not 512 or m below n; then the first faulty word: WELD_DCT_REFUSED_WORDS for its kind, and otherwise WELD_DCT_REFUSED_SAMPLE or
  * WELD_DCT_REFUSED_END for what it holds. */
 struct weld_dct_answer weld_dct_sheet(const uint32_t *words, size_t n, uint32_t b, int32_t *scratch, size_t k, uint32_t *output, size_t m);
+
+/* Sheet range: the lowest and the highest float of a coefficient sheet.
+ *
+ * words: a head of kind 4, 64 words of kind 3 for each block, each a coefficient in eighths in 28-bit two's complement, and an end word,
+ * laid out as sheet writes them. The floats are the coefficients over 8, exactly. An accepted call answers 0 and place 0.
+ * Refuses, in this order: WELD_DCT_REFUSED_HEAD; WELD_DCT_REFUSED_WORDS for the count; then the first faulty word: WELD_DCT_REFUSED_WORDS
+ * for its kind, and otherwise WELD_DCT_REFUSED_COEFFICIENT, a coefficient is beyond 4,194,303 in magnitude, or WELD_DCT_REFUSED_END for
+ * what it holds. */
+struct weld_dct_range_answer weld_dct_sheet_range(const uint32_t *words, size_t n);
 
 #ifdef __cplusplus
 }

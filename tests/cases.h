@@ -42,8 +42,9 @@ void make_set_above(int32_t *set, int n);
 enum { NO_WIDTHS = 73 };
 uint32_t no_width(int n);
 
-/* One buffer of a call, for the library and for the second program, each between guard numbers; both begin with the same numbers. */
-enum { GUARD = 16, LONGEST = 100000 };
+/* One buffer of a call, for the library and for the second program, each between guard numbers; both begin with the same numbers. GUARD is odd, so
+ * that a buffer has the alignment of its numbers and no higher one. */
+enum { GUARD = 17, LONGEST = 100000 };
 typedef struct {
     const char *name;
     size_t length;

@@ -10,6 +10,8 @@ typedef struct { int component, times; } Term;
 typedef struct { int place, sign; } Source;
 
 const uint32_t widths[WIDTHS] = {11, 20, 26};
+const Format sample_format = {SAMPLE_HEAD, SAMPLE, LOWEST, HIGHEST, BAD_SAMPLE};
+const Format coefficient_format = {COEFFICIENT_HEAD, COEFFICIENT, -MOST_COEFFICIENT, MOST_COEFFICIENT, BAD_COEFFICIENT};
 static Term terms[BLOCK][BLOCK][2];         /* t(u,i) × t(v,j), at [8u+v][8i+j]: c_(a+b) and c_(a-b) */
 static long double factors[BLOCK][BLOCK];   /* 1/4 · C(u) · C(v) · cos((2i+1)uπ/16) · cos((2j+1)vπ/16), at [8u+v][8i+j] */
 static long double cosines[8];              /* 1, and c_1 to c_7 */
@@ -291,11 +293,17 @@ static Answer judge_steps(size_t n, const uint32_t *steps, size_t k, size_t m) {
 /* 8 × the step of the place p */
 static int64_t divisor(const uint32_t *steps, size_t p) { return 8 * (int64_t)steps[in_zigzag[p]]; }
 
-Answer second_quantize(const int32_t *coefficients, size_t n, const uint32_t *steps, size_t k, int32_t *quantized, size_t m) {
-    Answer answer = judge_steps(n, steps, k, m);
-    if (answer.number != ACCEPTED) return answer;
+/* 64 coefficients: the first that is beyond the limit */
+static Answer judge_coefficients(const int32_t *coefficients) {
     for (size_t p = 0; p < BLOCK; p++)
         if (coefficients[p] < -MOST_COEFFICIENT || coefficients[p] > MOST_COEFFICIENT) return (Answer){BAD_COEFFICIENT, p};
+    return (Answer){ACCEPTED, 0};
+}
+
+Answer second_quantize(const int32_t *coefficients, size_t n, const uint32_t *steps, size_t k, int32_t *quantized, size_t m) {
+    Answer answer = judge_steps(n, steps, k, m);
+    if (answer.number == ACCEPTED) answer = judge_coefficients(coefficients);
+    if (answer.number != ACCEPTED) return answer;
     for (size_t p = 0; p < BLOCK; p++) quantized[p] = nearest(coefficients[p], divisor(steps, p));
     return answer;
 }
@@ -312,6 +320,48 @@ Answer second_dequantize(const int32_t *quantized, size_t n, const uint32_t *ste
     return answer;
 }
 
+/* Floats. */
+
+/* The bits of y / 2^e, of a y below 2^24 in magnitude: the sign; the exponent, which is 127 for a number from 1 to below 2; and the 23 bits behind
+ * the highest one of |y|. None is lost: |y| is doubled until it has 24, and the exponent makes up for it. Zero has no bits. */
+static uint32_t float_bits(int32_t y, uint32_t e) {
+    uint32_t sign = y < 0, exponent = 127 + 23 - e, magnitude = (uint32_t)abs(y);
+    if (y == 0) return 0;
+    for (; magnitude < 1u << 23; magnitude *= 2) exponent--;
+    return sign << 31 | exponent << 23 | (magnitude - (1u << 23));
+}
+
+/* y/8 */
+static uint32_t coefficient_float(int32_t y) { return float_bits(y, 3); }
+
+/* what is asked of a block of coefficients of which m floats are made */
+static Answer judge_block(const int32_t *coefficients, size_t n, size_t m) {
+    return n != BLOCK || m != BLOCK ? (Answer){BAD_LENGTH, 0} : judge_coefficients(coefficients);
+}
+
+Answer second_to_floats(const int32_t *coefficients, size_t n, uint32_t *floats, size_t m) {
+    Answer answer = judge_block(coefficients, n, m);
+    for (size_t p = 0; p < BLOCK && answer.number == ACCEPTED; p++) floats[p] = coefficient_float(coefficients[p]);
+    return answer;
+}
+
+/* how many of the coefficients from 1 on are smaller than the one at p, or as large and behind it */
+static int behind(const int32_t *coefficients, size_t p) {
+    int count = 0;
+    for (size_t q = 1; q < BLOCK; q++)
+        count += abs(coefficients[q]) < abs(coefficients[p]) || (abs(coefficients[q]) == abs(coefficients[p]) && q > p);
+    return count;
+}
+
+/* Of the coefficients from 1 on, the one that has the 62 others behind it. A block is flat where it is 0. */
+Summary second_summary(const int32_t *coefficients, size_t n) {
+    Answer answer = judge_block(coefficients, n, BLOCK);
+    size_t largest = 1;
+    if (answer.number != ACCEPTED) return (Summary){answer, 0, 0, 0};
+    while (behind(coefficients, largest) < BLOCK - 2) largest++;
+    return (Summary){answer, coefficients[largest] != 0, float_bits(coefficients[0], 6), coefficient_float(coefficients[largest])};
+}
+
 /* Sheets. */
 
 uint32_t kind(uint32_t w) { return w >> 28; }
@@ -323,30 +373,43 @@ uint32_t make_word(uint32_t k, int64_t v) { return k << 28 | payload((uint32_t)v
 uint32_t make_head(uint32_t k, uint32_t a, uint32_t d) { return k << 28 | a << 14 | d; }
 size_t sheet_count(uint32_t blocks) { return 2 + (size_t)BLOCK * blocks; }
 
-/* the blocks that a head announces, or 0 if it is none of an allowed sample sheet */
-static uint32_t announced(uint32_t head) {
+/* the blocks that a head announces, or 0 if it is none of an allowed sheet */
+static uint32_t announced(const Format *format, uint32_t head) {
     uint32_t blocks = across(head) * down(head);
-    return kind(head) == SAMPLE_HEAD && blocks <= MOST_BLOCKS ? blocks : 0;
+    return kind(head) == format->head && blocks <= MOST_BLOCKS ? blocks : 0;
 }
 
 /* what is wrong with a word after the head */
-static uint32_t fault(uint32_t w, int is_end, uint32_t blocks) {
-    if (kind(w) != (is_end ? END : SAMPLE)) return BAD_WORDS;
+static uint32_t fault(const Format *format, uint32_t w, int is_end, uint32_t blocks) {
+    int32_t value = payload_value(w);
+    if (kind(w) != (is_end ? END : format->body)) return BAD_WORDS;
     if (is_end) return payload(w) != blocks ? BAD_END : ACCEPTED;
-    return in_range(payload_value(w)) ? ACCEPTED : BAD_SAMPLE;
+    return value < format->lowest || value > format->highest ? format->cause : ACCEPTED;
 }
 
-static Answer judge_sheet(const uint32_t *words, size_t n, uint32_t b, size_t k, size_t m) {
-    uint32_t blocks = n == 0 ? 0 : announced(words[0]);
-    if (width_index(b) == WIDTHS) return (Answer){BAD_WIDTH, 0};
+/* the head, and the count of words */
+static Answer judge_size(const Format *format, const uint32_t *words, size_t n) {
+    uint32_t blocks = n == 0 ? 0 : announced(format, words[0]);
     if (blocks == 0) return (Answer){BAD_HEAD, 0};
-    if (n != sheet_count(blocks)) return (Answer){BAD_WORDS, n};
-    if (k != SET || m < n) return (Answer){BAD_LENGTH, 0};
+    return (Answer){n != sheet_count(blocks) ? BAD_WORDS : ACCEPTED, n};
+}
+
+/* the words after the head, of a sheet of the right count */
+static Answer judge_words(const Format *format, const uint32_t *words, size_t n) {
+    uint32_t blocks = announced(format, words[0]);
     for (size_t i = 1; i < n; i++) {
-        uint32_t number = fault(words[i], i == n - 1, blocks);
+        uint32_t number = fault(format, words[i], i == n - 1, blocks);
         if (number != ACCEPTED) return (Answer){number, i};
     }
     return (Answer){ACCEPTED, n};
+}
+
+static Answer judge_sheet(const uint32_t *words, size_t n, uint32_t b, size_t k, size_t m) {
+    Answer size = judge_size(&sample_format, words, n);
+    if (width_index(b) == WIDTHS) return (Answer){BAD_WIDTH, 0};
+    if (size.number != ACCEPTED) return size;
+    if (k != SET || m < n) return (Answer){BAD_LENGTH, 0};
+    return judge_words(&sample_format, words, n);
 }
 
 Answer second_sheet(const uint32_t *words, size_t n, uint32_t b, int32_t *scratch, size_t k, uint32_t *output, size_t m) {
@@ -361,4 +424,17 @@ Answer second_sheet(const uint32_t *words, size_t n, uint32_t b, int32_t *scratc
     }
     output[n - 1] = words[n - 1];
     return answer;
+}
+
+Range second_sheet_range(const uint32_t *words, size_t n) {
+    int32_t lowest = MOST_COEFFICIENT, highest = -MOST_COEFFICIENT;
+    Answer answer = judge_size(&coefficient_format, words, n);
+    if (answer.number == ACCEPTED) answer = judge_words(&coefficient_format, words, n);
+    if (answer.number != ACCEPTED) return (Range){answer, 0, 0};
+    for (size_t i = 1; i < n - 1; i++) {
+        int32_t y = payload_value(words[i]);
+        if (y < lowest) lowest = y;
+        if (y > highest) highest = y;
+    }
+    return (Range){{ACCEPTED, 0}, coefficient_float(lowest), coefficient_float(highest)};
 }

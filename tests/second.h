@@ -1,6 +1,6 @@
 /* The second program: the jobs as 01 and 02 define them, made from these and from T.81's formula and zig-zag order (ITU-T T.81, A.3.3 and Figure A.6)
  * alone. It shares nothing with the library. A job takes buffers of any lengths, leaves in them what the call has to leave there, and returns the
- * answer. */
+ * answer. Its floats are their bits, as IEEE 754 lays down binary32; it has no other. */
 #ifndef SECOND_H
 #define SECOND_H
 
@@ -22,6 +22,8 @@ enum { ACCEPTED, BAD_LENGTH, BAD_SAMPLE, BAD_WIDTH, BAD_MAGNITUDES, NO_BLOCK, BA
     BAD_COEFFICIENT, ANSWERS };
 
 typedef struct { uint32_t number; size_t place; } Answer;
+typedef struct { Answer answer; uint32_t textured, mean, largest; } Summary;
+typedef struct { Answer answer; uint32_t lowest, highest; } Range;
 
 /* Makes the tables; comes before all else. False if a table number, which is rounded from the cosine itself, breaks 01's rule of fractions, or if an
  * element of a reoriented block is not one of the block's, or its negative, or is so in more than one way. */
@@ -34,7 +36,10 @@ Answer second_reorient(const int32_t *elements, size_t n, uint32_t orientation, 
 Answer second_compose_orientations(uint32_t first, uint32_t second);
 Answer second_quantize(const int32_t *coefficients, size_t n, const uint32_t *steps, size_t k, int32_t *quantized, size_t m);
 Answer second_dequantize(const int32_t *quantized, size_t n, const uint32_t *steps, size_t k, int32_t *coefficients, size_t m);
+Answer second_to_floats(const int32_t *coefficients, size_t n, uint32_t *floats, size_t m);
+Summary second_summary(const int32_t *coefficients, size_t n);
 Answer second_sheet(const uint32_t *words, size_t n, uint32_t b, int32_t *scratch, size_t k, uint32_t *output, size_t m);
+Range second_sheet_range(const uint32_t *words, size_t n);
 
 /* T.81: its factor of sample q = 8i+j in the DCT value at p = 8u+v, and the DCT value itself. */
 long double T81_factor(int p, int q);
@@ -62,5 +67,10 @@ uint32_t make_head(uint32_t k, uint32_t a, uint32_t d);
 
 /* The words of a sheet of so many blocks. */
 size_t sheet_count(uint32_t blocks);
+
+/* What a sheet has to have: the kinds of its head and of its body words, the lowest and the highest value of these, and the cause by which another
+ * is refused. */
+typedef struct { uint32_t head, body; int32_t lowest, highest; uint32_t cause; } Format;
+extern const Format sample_format, coefficient_format;
 
 #endif

@@ -148,7 +148,7 @@ int main(void) {
     start("sheet_job");
     for (int w = 0; w < WIDTHS; w++) {
         width = widths[w];
-        sheet_cases(&(Job){check_sheet, width, SIZE_MAX});
+        sheet_cases(&(Job){check_sheet, &sample_format, width, SIZE_MAX});
     }
     orders();
     no_widths();

@@ -392,7 +392,7 @@ int main(int argc, char **argv) {
     expect(input_file != NULL, "no file for the input");
     worked_examples();
     for (int n = 2; n < argc; n++) read_example(argv[n]);
-    sheet_cases(&(Job){check_words, WIDTH, LIMIT / 4});
+    sheet_cases(&(Job){check_words, &sample_format, WIDTH, LIMIT / 4});
     every_length();
     long_inputs();
     in_pieces();

@@ -18,12 +18,15 @@ static int calls;
 static int32_t blocks[PATTERNS][BLOCK], bad_block[BLOCK];
 static int32_t sets[PATTERNS][SET], any_set[SET], bad_set[SET]; /* the blocks' sets, an accepted one that no block has, one that is not accepted */
 static uint32_t steps[BLOCK], bad_steps[BLOCK];
-static int32_t any_coefficients[BLOCK], bad_coefficients[BLOCK], any_values[BLOCK], bad_values[BLOCK];
-static Sheet small, large, bad_sheet;
+static int32_t any_coefficients[BLOCK], flat_coefficients[BLOCK], bad_coefficients[BLOCK], any_values[BLOCK], bad_values[BLOCK];
+static Sheet small, large, bad_sheet, small_range, large_range, bad_range, bad_range_end;
 static int32_t elements[SET], samples[BLOCK], coefficients[BLOCK], reoriented[SET], quantized[BLOCK], scratch[SET];
 static uint32_t output[ROOM];
+static float floats[BLOCK];
 
-static void answered(struct weld_dct_answer answer) { numbers[calls++] = answer.number; }
+static void note(uint32_t number) { numbers[calls++] = number; }
+
+static void answered(struct weld_dct_answer answer) { note(answer.number); }
 
 static void call_forward(void) {
     for (int n = 0; n < PATTERNS; n++) answered(weld_dct_forward(blocks[n], BLOCK, elements, SET));
@@ -74,12 +77,32 @@ static void call_dequantize(void) {
     answered(weld_dct_dequantize(bad_values, BLOCK, steps, BLOCK, coefficients, BLOCK));
 }
 
+static void call_to_floats(void) {
+    answered(weld_dct_to_floats(any_coefficients, BLOCK, floats, BLOCK));
+    answered(weld_dct_to_floats(any_coefficients, BLOCK, floats, BLOCK - 1));
+    answered(weld_dct_to_floats(bad_coefficients, BLOCK, floats, BLOCK));
+}
+
+static void call_summary(void) {
+    note(weld_dct_summary(any_coefficients, BLOCK).number);
+    note(weld_dct_summary(flat_coefficients, BLOCK).number);
+    note(weld_dct_summary(any_coefficients, BLOCK - 1).number);
+    note(weld_dct_summary(bad_coefficients, BLOCK).number);
+}
+
 static void call_sheet(void) {
     for (int w = 0; w < WIDTHS; w++) {
         answered(weld_dct_sheet(small.words, small.count, widths[w], scratch, SET, output, ROOM));
         answered(weld_dct_sheet(large.words, large.count, widths[w], scratch, SET, output, ROOM));
     }
     answered(weld_dct_sheet(bad_sheet.words, bad_sheet.count, widths[0], scratch, SET, output, ROOM));
+}
+
+static void call_sheet_range(void) {
+    note(weld_dct_sheet_range(small_range.words, small_range.count).number);
+    note(weld_dct_sheet_range(large_range.words, large_range.count).number);
+    note(weld_dct_sheet_range(bad_range.words, bad_range.count).number);
+    note(weld_dct_sheet_range(bad_range_end.words, bad_range_end.count).number);
 }
 
 static const struct {
@@ -95,7 +118,10 @@ static const struct {
     {"compose_orientations", call_compose, {BAD_ORIENTATION, BAD_ORIENTATION}, 2},
     {"quantize", call_quantize, {BAD_STEP, BAD_COEFFICIENT}, 2},
     {"dequantize", call_dequantize, {BAD_STEP, BAD_COEFFICIENT}, 2},
+    {"to_floats", call_to_floats, {BAD_LENGTH, BAD_COEFFICIENT}, 2},
+    {"summary", call_summary, {BAD_LENGTH, BAD_COEFFICIENT}, 2},
     {"sheet", call_sheet, {BAD_END}, 1},
+    {"sheet_range", call_sheet_range, {BAD_COEFFICIENT, BAD_END}, 2},
 };
 
 static void *run(void *n) {
@@ -124,6 +150,18 @@ static size_t taken(size_t n, unsigned char paint) {
     return (size_t)(top - (stack + lowest));
 }
 
+static void prepare_sheets(void) {
+    make_sheet(&small, 1, 1, ANY);
+    make_sheet(&large, 4, MOST_BLOCKS / 4, SMOOTH);
+    bad_sheet = small;
+    bad_sheet.words[bad_sheet.count - 1]++;
+    make_sheet_of(&coefficient_format, &small_range, 1, 1, ANY);
+    make_sheet_of(&coefficient_format, &large_range, 4, MOST_BLOCKS / 4, SMOOTH);
+    bad_range = bad_range_end = large_range;
+    bad_range.words[bad_range.count - 2] = make_word(COEFFICIENT, MOST_COEFFICIENT + 1);
+    bad_range_end.words[bad_range_end.count - 1]++;
+}
+
 static void prepare(void) {
     for (int n = 0; n < PATTERNS; n++) {
         make_samples(blocks[n], 1, 1, (enum pattern)n);
@@ -140,15 +178,13 @@ static void prepare(void) {
     }
     memcpy(bad_steps, steps, sizeof bad_steps);
     bad_steps[BLOCK - 1] = 0;
+    flat_coefficients[0] = any_coefficients[0];
     memcpy(bad_coefficients, any_coefficients, sizeof bad_coefficients);
     bad_coefficients[BLOCK - 1] = MOST_COEFFICIENT + 1;
     second_quantize(any_coefficients, BLOCK, steps, BLOCK, any_values, BLOCK);
     memcpy(bad_values, any_values, sizeof bad_values);
     bad_values[BLOCK - 1] = INT32_MAX;
-    make_sheet(&small, 1, 1, ANY);
-    make_sheet(&large, 4, MOST_BLOCKS / 4, SMOOTH);
-    bad_sheet = small;
-    bad_sheet.words[bad_sheet.count - 1]++;
+    prepare_sheets();
 }
 
 int main(int count, char **words) {
@@ -156,7 +192,7 @@ int main(int count, char **words) {
     expect(count == 2, "it is called with the limit, in KB");
     size_t limit = 1024 * (size_t)atoi(words[1]);
     prepare();
-    char line[200] = "";
+    char line[300] = "";
     for (size_t n = 0; n < COUNT(jobs); n++) {
         begin("%s", jobs[n].name);
         calls = 0;

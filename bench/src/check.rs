@@ -2,9 +2,10 @@
 use crate::inputs::{Elements, Given, Samples, Steps, STEPS};
 use crate::jobs::{ByNumber, BySteps, Jobs, Ways, DENSE, LIBRARY, PLAIN};
 use crate::{doubles, jpeg};
+use std::array::from_fn;
 use weld_dct::{
-    Refusal, COEFFICIENT_LIMIT, COMPONENTS, DEQUANTIZED_LIMIT, HIGHEST_SAMPLE, MAGNITUDES_LIMIT,
-    ORIENTATIONS, PLACES, STEP_LIMIT, WIDTHS,
+    Range, Refusal, Summary, COEFFICIENT_LIMIT, COMPONENTS, DEQUANTIZED_LIMIT, HIGHEST_SAMPLE,
+    MAGNITUDES_LIMIT, ORIENTATIONS, PLACES, STEP_LIMIT, WIDTHS,
 };
 
 type Outcome = Result<(), String>;
@@ -40,6 +41,27 @@ fn of_numbers(job: BySteps, numbers: &Samples, steps: &Steps) -> (Result<(), Ref
     let mut left = [0; PLACES];
     let returned = job(numbers, steps, &mut left);
     (returned, left)
+}
+
+/// All that to_floats returns and leaves, floats by their bits.
+fn of_floats(jobs: Jobs, coefficients: &Samples) -> (Result<(), Refusal>, [u32; PLACES]) {
+    let mut left = [f32::NAN; PLACES];
+    let returned = (jobs.to_floats)(coefficients, &mut left);
+    (returned, left.map(f32::to_bits))
+}
+
+/// All that summary returns, floats by their bits.
+fn of_summary(jobs: Jobs, coefficients: &Samples) -> Result<(u32, Option<u32>), Refusal> {
+    Ok(match (jobs.summary)(coefficients)? {
+        Summary::Flat { mean } => (mean.to_bits(), None),
+        Summary::Textured { mean, largest } => (mean.to_bits(), Some(largest.to_bits())),
+    })
+}
+
+/// All that sheet_range returns, floats by their bits.
+fn of_range(jobs: Jobs, words: &[u32]) -> Result<[u32; 2], Refusal> {
+    let Range { lowest, highest } = (jobs.sheet_range)(words)?;
+    Ok([lowest, highest].map(f32::to_bits))
 }
 
 /// All that the sheet job returns and leaves.
@@ -136,6 +158,55 @@ fn quantization([one, other]: [BySteps; 2], all: &[Samples]) -> Outcome {
     Ok(())
 }
 
+/// The library's floats and summaries, and plain Rust's, are equal for all of these and for altered ones, for a flat block,
+/// and for one whose others are all of one magnitude.
+fn floats(all: &[Samples]) -> Outcome {
+    let flat = [0; PLACES];
+    let equal = from_fn(|p| if p % 3 == 0 { 8 } else { -8 });
+    let altered = altered_numbers(&all[0]);
+    for coefficients in all.iter().chain(&altered).chain([&flat, &equal]) {
+        expect(
+            of_floats(LIBRARY, coefficients) == of_floats(PLAIN, coefficients),
+            "plain Rust makes other floats than the library",
+        )?;
+        expect(
+            of_summary(LIBRARY, coefficients) == of_summary(PLAIN, coefficients),
+            "plain Rust makes another summary than the library",
+        )?;
+    }
+    Ok(())
+}
+
+/// The first of the sheets with one word altered: to one of no kind, and to another.
+fn faulty(sheets: &[Vec<u32>], word: u32) -> [Vec<u32>; 2] {
+    [0, word].map(|word| {
+        let mut words = sheets[0].clone();
+        words[7] = word;
+        words
+    })
+}
+
+/// The library's sheets and ranges, and plain Rust's, are equal for all sheets and for faulty ones.
+fn sheets(given: &Given) -> Outcome {
+    let others = faulty(&given.sheets, 2 << 28 | 2048);
+    for b in WIDTHS {
+        for words in given.sheets.iter().chain(&others) {
+            expect(
+                of_sheet(LIBRARY, words, b) == of_sheet(PLAIN, words, b),
+                "plain Rust differs from the library in a sheet",
+            )?;
+        }
+    }
+    let others = faulty(&given.coefficient_sheets, 3 << 28 | 1 << 22);
+    for words in given.coefficient_sheets.iter().chain(&others) {
+        expect(
+            of_range(LIBRARY, words) == of_range(PLAIN, words),
+            "plain Rust differs from the library in the range of a sheet",
+        )?;
+    }
+    Ok(())
+}
+
 /// Plain Rust equals the library in all jobs, with a number that is no orientation besides, and the dense passes do in
 /// theirs.
 pub fn exact(given: &Given) -> Outcome {
@@ -146,20 +217,8 @@ pub fn exact(given: &Given) -> Outcome {
     sets::<COMPONENTS>(both.map(|jobs| jobs.reorient), 0..=ORIENTATIONS, given)?;
     quantization(both.map(|jobs| jobs.quantize), &given.coefficients)?;
     quantization(both.map(|jobs| jobs.dequantize), &given.quantized)?;
-    let faulty = [0, 2 << 28 | 2048].map(|word| {
-        let mut words = given.sheets[0].clone();
-        words[7] = word;
-        words
-    });
-    for b in WIDTHS {
-        for words in given.sheets.iter().chain(&faulty) {
-            expect(
-                of_sheet(LIBRARY, words, b) == of_sheet(PLAIN, words, b),
-                "plain Rust differs from the library in a sheet",
-            )?;
-        }
-    }
-    Ok(())
+    floats(&given.coefficients)?;
+    sheets(given)
 }
 
 /// Eight times the DCT values in doubles lie no further from the library's coefficients at 26 than these promise, and

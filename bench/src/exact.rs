@@ -1,6 +1,8 @@
 //! Forward and back by any passes, behind the library's checks.
 use crate::inputs::{Elements, Samples};
-use weld_dct::{Refusal, COMPONENTS, HIGHEST_SAMPLE, LOWEST_SAMPLE, MAGNITUDES_LIMIT};
+use weld_dct::{
+    Refusal, COEFFICIENT_LIMIT, COMPONENTS, HIGHEST_SAMPLE, LOWEST_SAMPLE, MAGNITUDES_LIMIT,
+};
 
 /// What makes elements of samples, and samples of elements.
 pub trait Passes {
@@ -31,6 +33,12 @@ pub fn first<T>(all: &[T], holds: impl Fn(&T) -> bool) -> Option<usize> {
 #[inline(always)]
 pub fn is_sample(x: i32) -> bool {
     (LOWEST_SAMPLE..=HIGHEST_SAMPLE).contains(&x)
+}
+
+/// Whether a coefficient is within the limit of those that come in.
+#[inline(always)]
+pub fn is_coefficient(y: i32) -> bool {
+    (-COEFFICIENT_LIMIT..=COEFFICIENT_LIMIT).contains(&y)
 }
 
 /// The exact elements of a block.

@@ -1,5 +1,5 @@
 //! What every side is given: blocks, half of them random and half smooth with a little grain, their exact elements,
-//! coefficients and quantized values, and sheets of them.
+//! coefficients and quantized values, and sheets of samples and of coefficients.
 use std::array::from_fn;
 use weld_dct::{forward, quantize, round, sheet_words, Refusal, BLOCKS_LIMIT, COMPONENTS, PLACES};
 
@@ -22,13 +22,20 @@ pub const STEPS: Steps = [
     87, 95, 98, 103, 104, 103, 62, 77, 113, 121, 112, 100, 120, 92, 101, 103, 99,
 ];
 
-/// Blocks, their exact elements, coefficients at 26 and quantized values, and the sheets that they fill.
+/// The kinds of a sheet's head and of the words of its blocks.
+pub type Kinds = [u32; 2];
+pub const SAMPLES: Kinds = [1, 2];
+pub const COEFFICIENTS: Kinds = [4, 3];
+
+/// Blocks, their exact elements, coefficients at 26 and quantized values, and the sheets that samples and coefficients
+/// fill.
 pub struct Given {
     pub blocks: Vec<Samples>,
     pub sets: Vec<Elements>,
     pub coefficients: Vec<Samples>,
     pub quantized: Vec<Samples>,
     pub sheets: Vec<Vec<u32>>,
+    pub coefficient_sheets: Vec<Vec<u32>>,
 }
 
 impl Given {
@@ -41,7 +48,8 @@ impl Given {
         let sets = all(&blocks, forward)?;
         let coefficients = all(&sets, |elements, made| round(elements, 26, made))?;
         Ok(Given {
-            sheets: sheets(&blocks, BLOCKS_LIMIT),
+            sheets: sheets(SAMPLES, &blocks, BLOCKS_LIMIT),
+            coefficient_sheets: sheets(COEFFICIENTS, &coefficients, BLOCKS_LIMIT),
             quantized: all(&coefficients, |y, made| quantize(y, &STEPS, made))?,
             blocks,
             sets,
@@ -103,16 +111,16 @@ fn all<const N: usize, const M: usize>(
 }
 
 /// Sheets of so many of the blocks each, one block down.
-pub fn sheets(blocks: &[Samples], each: usize) -> Vec<Vec<u32>> {
+pub fn sheets([head, body]: Kinds, blocks: &[Samples], each: usize) -> Vec<Vec<u32>> {
     let sheet = |blocks: &[Samples]| {
         let count = blocks.len() as u32;
         let mut words = Vec::with_capacity(sheet_words(blocks.len()));
-        words.push(1 << 28 | count << 14 | 1);
+        words.push(head << 28 | count << 14 | 1);
         words.extend(
             blocks
                 .iter()
                 .flatten()
-                .map(|x| 2 << 28 | *x as u32 & 0x0FFF_FFFF),
+                .map(|x| body << 28 | *x as u32 & 0x0FFF_FFFF),
         );
         words.push(15 << 28 | count);
         words

@@ -4,12 +4,15 @@ use crate::dense::Dense;
 use crate::inputs::{Elements, Given, Samples, STEPS};
 use crate::plain::ByClass;
 use crate::timing::Side;
-use crate::{exact, orientations, quantization, rounding, sheets};
+use crate::{exact, floats, orientations, quantization, rounding, sheets};
 use std::hint::black_box;
-use weld_dct::{Refusal, COMPONENTS, ORIENTATIONS, PLACES, WIDTHS};
+use weld_dct::{Range, Refusal, Summary, COMPONENTS, ORIENTATIONS, PLACES, WIDTHS};
 
 type OneWay = fn(&[i32], &mut [i32]) -> Result<(), Refusal>;
+type ToFloats = fn(&[i32], &mut [f32]) -> Result<(), Refusal>;
+type Summarize = fn(&[i32]) -> Result<Summary, Refusal>;
 type Sheet = fn(&[u32], u32, &mut [i32], &mut [u32]) -> Result<usize, Refusal>;
+type SheetRange = fn(&[u32]) -> Result<Range, Refusal>;
 
 /// Round at a width, or reorient by an orientation.
 pub type ByNumber = fn(&[i32], u32, &mut [i32]) -> Result<(), Refusal>;
@@ -33,7 +36,10 @@ pub struct Jobs {
     pub reorient: ByNumber,
     pub quantize: BySteps,
     pub dequantize: BySteps,
+    pub to_floats: ToFloats,
+    pub summary: Summarize,
     pub sheet: Sheet,
+    pub sheet_range: SheetRange,
 }
 
 pub const LIBRARY: Jobs = Jobs {
@@ -46,7 +52,10 @@ pub const LIBRARY: Jobs = Jobs {
     reorient: weld_dct::reorient,
     quantize: weld_dct::quantize,
     dequantize: weld_dct::dequantize,
+    to_floats: weld_dct::to_floats,
+    summary: weld_dct::summary,
     sheet: weld_dct::sheet,
+    sheet_range: weld_dct::sheet_range,
 };
 
 pub const PLAIN: Jobs = Jobs {
@@ -59,7 +68,10 @@ pub const PLAIN: Jobs = Jobs {
     reorient: orientations::reorient,
     quantize: quantization::quantize,
     dequantize: quantization::dequantize,
+    to_floats: floats::to_floats,
+    summary: floats::summary,
     sheet: sheets::sheet,
+    sheet_range: sheets::sheet_range,
 };
 
 pub const DENSE: Ways = Ways {
@@ -108,7 +120,8 @@ fn all_by_steps(job: BySteps, all: &[Samples]) {
 }
 
 impl Jobs {
-    /// Forward, back, round at each width, reorient, quantize, dequantize, and sheet at 26, over all of these.
+    /// Forward, back, round at each width, reorient, quantize, dequantize, to_floats, summary, sheet at 26, and
+    /// sheet_range, over all of these.
     pub fn sides(self, given: &Given) -> Vec<Side<'_>> {
         let mut sides = self.ways.sides(given);
         for b in WIDTHS {
@@ -121,8 +134,14 @@ impl Jobs {
         sides.push(self.ways.side("quantize", given, work));
         let work = move || all_by_steps(self.dequantize, &given.quantized);
         sides.push(self.ways.side("dequantize", given, work));
+        let work = move || self.all_floats(&given.coefficients);
+        sides.push(self.ways.side("to_floats", given, work));
+        let work = move || self.all_summaries(&given.coefficients);
+        sides.push(self.ways.side("summary", given, work));
         let work = move || self.all_sheets(&given.sheets);
         sides.push(self.ways.side("sheet at 26", given, work));
+        let work = move || self.all_ranges(&given.coefficient_sheets);
+        sides.push(self.ways.side("sheet_range", given, work));
         sides
     }
 
@@ -140,6 +159,26 @@ impl Jobs {
         for (elements, o) in sets.iter().zip((0..ORIENTATIONS).cycle()) {
             let _ = black_box((self.reorient)(black_box(elements), o, &mut output));
             black_box(&output);
+        }
+    }
+
+    fn all_floats(self, all: &[Samples]) {
+        let mut left = [0.0; PLACES];
+        for coefficients in all {
+            let _ = black_box((self.to_floats)(black_box(coefficients), &mut left));
+            black_box(&left);
+        }
+    }
+
+    fn all_summaries(self, all: &[Samples]) {
+        for coefficients in all {
+            let _ = black_box((self.summary)(black_box(coefficients)));
+        }
+    }
+
+    fn all_ranges(self, sheets: &[Vec<u32>]) {
+        for words in sheets {
+            let _ = black_box((self.sheet_range)(black_box(words)));
         }
     }
 

@@ -5,6 +5,7 @@ mod dense;
 mod doubles;
 mod element;
 mod exact;
+mod floats;
 mod inputs;
 mod instructions;
 mod jobs;

@@ -1,7 +1,7 @@
 //! The library's quantize and dequantize.
-use crate::exact::first;
+use crate::exact::{first, is_coefficient};
 use crate::inputs::{Samples, Steps};
-use weld_dct::{Refusal, COEFFICIENT_LIMIT, DEQUANTIZED_LIMIT, PLACES, STEP_LIMIT};
+use weld_dct::{Refusal, DEQUANTIZED_LIMIT, PLACES, STEP_LIMIT};
 
 /// The index in zig-zag order of each place: T.81's Figure A.6.
 const ZIGZAG: [[u8; 8]; 8] = [
@@ -44,8 +44,7 @@ pub fn quantize(coefficients: &[i32], steps: &[u32], quantized: &mut [i32]) -> R
     let coefficients: &Samples = coefficients.try_into().map_err(|_| Refusal::Lengths)?;
     let quantized: &mut Samples = quantized.try_into().map_err(|_| Refusal::Lengths)?;
     let steps = checked(steps)?;
-    let within = -COEFFICIENT_LIMIT..=COEFFICIENT_LIMIT;
-    if let Some(p) = first(coefficients, |y| !within.contains(y)) {
+    if let Some(p) = first(coefficients, |y| !is_coefficient(*y)) {
         return Err(Refusal::Coefficient(p));
     }
     for (p, q) in quantized.iter_mut().enumerate() {

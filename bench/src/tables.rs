@@ -58,7 +58,7 @@ pub fn print_growth(blocks: &[Samples], duration: Duration) {
     let sizes: Vec<usize> = (0..=7).map(|n| 1 << n).collect();
     let sheets: Vec<_> = sizes
         .iter()
-        .map(|size| inputs::sheets(blocks, *size))
+        .map(|size| inputs::sheets(inputs::SAMPLES, blocks, *size))
         .collect();
     let mut sides = vec![Side::new("forward + round at 26", blocks.len(), || {
         LIBRARY.all_forward_and_rounded(blocks)
@@ -106,7 +106,10 @@ pub fn print_instructions() -> Result<(), String> {
         "reorient",
         "quantize",
         "dequantize",
+        "to_floats",
+        "summary",
         "sheet at 26",
+        "sheet_range",
     ] {
         let count = |name| instructions::of_block(&format!("{name}: {job}"));
         println!("{job:60}{:15}{:15}", count(one)?, count(other)?);

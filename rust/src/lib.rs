@@ -17,8 +17,8 @@
 
 use std::{error, fmt};
 
-/// The places of a block, row by row: it has as many samples, elements, coefficients and quantized values, and as many
-/// quantization steps, which stand in zig-zag order.
+/// The places of a block, row by row: it has as many samples, elements, coefficients, quantized values and floats, and
+/// as many quantization steps, which stand in zig-zag order.
 pub const PLACES: usize = 64;
 
 /// The components of a block's elements, eight for each.
@@ -46,7 +46,7 @@ pub const ORIENTATIONS: u32 = 8;
 /// The largest quantization step; the smallest is 1.
 pub const STEP_LIMIT: u32 = 1024;
 
-/// The largest magnitude of a coefficient that is quantized.
+/// The largest magnitude of a coefficient that is quantized or made a float.
 pub const COEFFICIENT_LIMIT: i32 = 4_194_303;
 
 /// The largest magnitude of a coefficient that [`dequantize`] gives. It is more than [`COEFFICIENT_LIMIT`] by four times
@@ -76,7 +76,7 @@ pub enum Refusal {
     Magnitudes(usize),
     /// No block in range has these elements.
     NoBlock,
-    /// A sheet has no words, or does not begin with a head whose sizes are allowed.
+    /// A sheet has no words, or does not begin with a head of its kind whose sizes are allowed.
     Head,
     /// A sheet has this many words, and not as many as its sizes ask for. Or the word at this index, the first that has
     /// a fault and so below that count, is of another kind than its place needs.
@@ -88,8 +88,8 @@ pub enum Refusal {
     /// The quantization step at this index of the list, which is in zig-zag order, is not from 1 to [`STEP_LIMIT`]. It is
     /// the first.
     Step(usize),
-    /// The coefficient at this index, 8u+v, is beyond [`COEFFICIENT_LIMIT`], or the one that [`dequantize`] would write
-    /// there is beyond [`DEQUANTIZED_LIMIT`]. It is the first.
+    /// The coefficient at this index, 8u+v, in a sheet the word at this index, is beyond [`COEFFICIENT_LIMIT`], or the
+    /// one that [`dequantize`] would write there is beyond [`DEQUANTIZED_LIMIT`]. It is the first.
     Coefficient(usize),
 }
 
@@ -152,11 +152,55 @@ impl fmt::Display for Refusal {
 
 impl error::Error for Refusal {}
 
-/// What a function of the C interface returns.
+/// What [`summary`] says of a block.
+#[derive(Debug, Clone, Copy, PartialEq)]
+pub enum Summary {
+    /// All coefficients but the first are 0.
+    Flat {
+        /// The mean grey: the first coefficient in eighths over 64.
+        mean: f32,
+    },
+    /// They are not.
+    Textured {
+        /// The mean grey: the first coefficient in eighths over 64.
+        mean: f32,
+        /// The one of largest magnitude among the other 63, in eighths over 8 and with its sign; of equal magnitudes the
+        /// one of the lowest index.
+        largest: f32,
+    },
+}
+
+/// The lowest and the highest float of a coefficient sheet.
+#[derive(Debug, Clone, Copy, PartialEq)]
+pub struct Range {
+    /// The lowest.
+    pub lowest: f32,
+    /// The highest.
+    pub highest: f32,
+}
+
+/// What most functions of the C interface return.
 #[repr(C)]
 struct Answer {
     number: u32,
     place: usize,
+}
+
+/// What that of [`summary`] returns.
+#[repr(C)]
+struct SummaryAnswer {
+    answer: Answer,
+    textured: u32,
+    mean: f32,
+    largest: f32,
+}
+
+/// What that of [`sheet_range`] returns.
+#[repr(C)]
+struct RangeAnswer {
+    answer: Answer,
+    lowest: f32,
+    highest: f32,
 }
 
 extern "C" {
@@ -193,6 +237,9 @@ extern "C" {
         coefficients: *mut i32,
         m: usize,
     ) -> Answer;
+    fn weld_dct_to_floats(coefficients: *const i32, n: usize, floats: *mut f32, m: usize)
+        -> Answer;
+    fn weld_dct_summary(coefficients: *const i32, n: usize) -> SummaryAnswer;
     fn weld_dct_sheet(
         words: *const u32,
         n: usize,
@@ -202,11 +249,12 @@ extern "C" {
         output: *mut u32,
         m: usize,
     ) -> Answer;
+    fn weld_dct_sheet_range(words: *const u32, n: usize) -> RangeAnswer;
 }
 
 impl Answer {
-    /// The place of an accepted call, which is the words written of a sheet, the composed one of two orientations, and 0
-    /// otherwise; or the refusal.
+    /// The place of an accepted call, which is the words written of a sheet that is transformed, the composed one of two
+    /// orientations, and 0 otherwise; or the refusal.
     fn outcome(self) -> Result<usize, Refusal> {
         match self.number {
             numbers::ACCEPTED => Ok(self.place),
@@ -223,6 +271,27 @@ impl Answer {
             numbers::COEFFICIENT => Err(Refusal::Coefficient(self.place)),
             number => unreachable!("the library is proved to return 0 to 11, and not {number}"),
         }
+    }
+}
+
+impl SummaryAnswer {
+    /// The summary, or the refusal.
+    fn outcome(self) -> Result<Summary, Refusal> {
+        self.answer.outcome()?;
+        let (mean, largest) = (self.mean, self.largest);
+        Ok(match self.textured {
+            0 => Summary::Flat { mean },
+            _ => Summary::Textured { mean, largest },
+        })
+    }
+}
+
+impl RangeAnswer {
+    /// The two floats, or the refusal.
+    fn outcome(self) -> Result<Range, Refusal> {
+        self.answer.outcome()?;
+        let (lowest, highest) = (self.lowest, self.highest);
+        Ok(Range { lowest, highest })
     }
 }
 
@@ -464,6 +533,66 @@ pub fn dequantize(
     answer.outcome().map(|_| ())
 }
 
+/// Makes 64 floats of 64 coefficients in eighths.
+///
+/// `coefficients` has the one of (u,v) at index 8u+v, as [`round`] lays them out. At each index of `floats` the
+/// coefficient over 8 is written, exactly; zero is plus zero.
+///
+/// # Errors
+///
+/// In this order, and `floats` is then as it was:
+/// - [`Refusal::Lengths`]: `coefficients` or `floats` has not 64 numbers;
+/// - [`Refusal::Coefficient`]: a coefficient is beyond 4,194,303 in magnitude.
+///
+/// ```
+/// use weld_dct::{to_floats, Refusal, PLACES};
+///
+/// let mut coefficients = [0; PLACES];
+/// (coefficients[0], coefficients[9]) = (64, -237);
+/// let mut floats = [0.0; PLACES];
+/// to_floats(&coefficients, &mut floats)?;
+/// assert_eq!((floats[0], floats[9]), (8.0, -29.625));
+///
+/// coefficients[5] = 4_194_304;
+/// assert_eq!(to_floats(&coefficients, &mut floats), Err(Refusal::Coefficient(5)));
+/// # Ok::<(), Refusal>(())
+/// ```
+pub fn to_floats(coefficients: &[i32], floats: &mut [f32]) -> Result<(), Refusal> {
+    let (n, m) = (coefficients.len(), floats.len());
+    // SAFETY: the pointers are those of slices, with their lengths, and a slice borrowed mutably overlaps no other.
+    let answer = unsafe { weld_dct_to_floats(coefficients.as_ptr(), n, floats.as_mut_ptr(), m) };
+    answer.outcome().map(|_| ())
+}
+
+/// Says whether a block is flat or textured, with its mean grey and its largest other coefficient.
+///
+/// `coefficients` has the one of (u,v), in eighths, at index 8u+v, as [`round`] lays them out. [`Summary`] says what the
+/// floats are. They are exact, and zero is plus zero.
+///
+/// # Errors
+///
+/// In this order:
+/// - [`Refusal::Lengths`]: `coefficients` has not 64 numbers;
+/// - [`Refusal::Coefficient`]: a coefficient is beyond 4,194,303 in magnitude.
+///
+/// ```
+/// use weld_dct::{summary, Refusal, Summary, PLACES};
+///
+/// let mut coefficients = [0; PLACES];
+/// coefficients[0] = 96;
+/// assert_eq!(summary(&coefficients)?, Summary::Flat { mean: 1.5 });
+///
+/// (coefficients[9], coefficients[10]) = (-8, 8);
+/// let textured = Summary::Textured { mean: 1.5, largest: -1.0 };
+/// assert_eq!(summary(&coefficients)?, textured);
+/// assert_eq!(summary(&coefficients[1..]), Err(Refusal::Lengths));
+/// # Ok::<(), Refusal>(())
+/// ```
+pub fn summary(coefficients: &[i32]) -> Result<Summary, Refusal> {
+    // SAFETY: the pointer is that of a slice, with its length.
+    unsafe { weld_dct_summary(coefficients.as_ptr(), coefficients.len()) }.outcome()
+}
+
 /// Makes a sheet of coefficient words of a sheet of sample words, at the width b, and returns the words written.
 ///
 /// A word has its kind in its top four bits and a payload in the other 28. `words` is a head of kind 1, blocks across
@@ -510,4 +639,34 @@ pub fn sheet(
     // SAFETY: the pointers are those of slices, with their lengths, and a slice borrowed mutably overlaps no other.
     let answer = unsafe { weld_dct_sheet(words.as_ptr(), n, b, scratch, k, output, m) };
     answer.outcome()
+}
+
+/// Returns the lowest and the highest float of a coefficient sheet.
+///
+/// `words` is a head of kind 4, 64 words of kind 3 for each block, each a coefficient in eighths in 28-bit two's
+/// complement, and an end word, laid out as [`sheet`] writes them. The floats are the coefficients over 8, exactly; zero
+/// is plus zero.
+///
+/// # Errors
+///
+/// In this order:
+/// - [`Refusal::Head`]: there are no words, the first is not of kind 4, or its sizes are not allowed;
+/// - [`Refusal::Words`] with the count: there are not [`sheet_words`] of the number of blocks;
+/// - then the first faulty word: [`Refusal::Words`] with its index for its kind, [`Refusal::Coefficient`] if it holds one
+///   beyond 4,194,303 in magnitude, and [`Refusal::End`] for what the end word holds.
+///
+/// ```
+/// use weld_dct::{sheet_range, sheet_words, Range, Refusal};
+///
+/// let mut words = [0x3000_0040; sheet_words(1)];
+/// (words[0], words[9], words[65]) = (0x4000_4001, 0x3FFF_FFFC, 0xF000_0001);
+/// let range = Range { lowest: -0.5, highest: 8.0 };
+/// assert_eq!(sheet_range(&words), Ok(range));
+///
+/// words[64] = 0x3040_0000;
+/// assert_eq!(sheet_range(&words), Err(Refusal::Coefficient(64)));
+/// ```
+pub fn sheet_range(words: &[u32]) -> Result<Range, Refusal> {
+    // SAFETY: the pointer is that of a slice, with its length.
+    unsafe { weld_dct_sheet_range(words.as_ptr(), words.len()) }.outcome()
 }

@@ -4,14 +4,26 @@ use weld_dct::*;
 
 const SAMPLE_HEAD: u32 = 0x1000_4001;
 const SAMPLE: u32 = 0x2000_0000;
+const COEFFICIENT: u32 = 0x3000_0000;
+const COEFFICIENT_HEAD: u32 = 0x4000_4001;
 const END: u32 = 0xF000_0001;
 
-/// A sheet of one block.
-fn one_block() -> Vec<u32> {
-    let mut words = vec![SAMPLE; sheet_words(1)];
-    words[0] = SAMPLE_HEAD;
+/// A sheet of one block, all 0.
+fn zeros(head: u32, body: u32) -> Vec<u32> {
+    let mut words = vec![body; sheet_words(1)];
+    words[0] = head;
     words[65] = END;
     words
+}
+
+/// Such a sheet of samples.
+fn one_block() -> Vec<u32> {
+    zeros(SAMPLE_HEAD, SAMPLE)
+}
+
+/// A word of a coefficient.
+fn coefficient_word(y: i32) -> u32 {
+    COEFFICIENT | y as u32 & 0x0FFF_FFFF
 }
 
 /// A refusal, and the number and place that it has.
@@ -58,6 +70,16 @@ type BySteps = fn(&[i32], &[u32], &mut [i32]) -> Result<(), Refusal>;
 /// Such a job does.
 fn steps_refuse(job: BySteps, numbers: &[i32], steps: &[u32], length: usize, expected: Expected) {
     refuses(|left| job(numbers, steps, left), length, expected);
+}
+
+/// The bits of a float that is no number, and has others once anything is worked out with it.
+const NO_NUMBER: u32 = 0x7F80_0007;
+
+/// To floats does.
+fn floats_refuse(coefficients: &[i32], length: usize, expected: Expected) {
+    let mut left = vec![f32::from_bits(NO_NUMBER); length];
+    refused(to_floats(coefficients, &mut left), expected);
+    assert!(left.iter().all(|x| x.to_bits() == NO_NUMBER));
 }
 
 /// Sheet refuses so at the width b, and leaves buffers of these lengths as they were.
@@ -178,6 +200,49 @@ fn quantize_and_dequantize_name_lengths_then_step_then_coefficient() {
 }
 
 #[test]
+fn to_floats_and_summary_name_lengths_then_the_first_coefficient() {
+    let most = COEFFICIENT_LIMIT;
+    for p in 0..PLACES {
+        let mut coefficients = [-most; PLACES];
+        for beyond in [i32::MIN, i32::MAX, most + 1, -most - 1] {
+            (coefficients[63], coefficients[p]) = (i32::MIN, beyond);
+            let expected = (Refusal::Coefficient(p), 11, p);
+            floats_refuse(&coefficients, 64, expected);
+            refused(summary(&coefficients), expected);
+        }
+    }
+    for wrong in [0, 63, 65, 512] {
+        for (n, m) in [(wrong, 64), (64, wrong), (wrong, wrong)] {
+            floats_refuse(&vec![i32::MIN; n], m, (Refusal::Lengths, 1, 0));
+        }
+        refused(summary(&vec![i32::MIN; wrong]), (Refusal::Lengths, 1, 0));
+    }
+}
+
+#[test]
+fn sheet_range_names_head_then_count_then_the_first_faulty_word() {
+    let mut words = zeros(COEFFICIENT_HEAD, COEFFICIENT);
+    refused(sheet_range(&[]), (Refusal::Head, 6, 0));
+    refused(sheet_range(&one_block()), (Refusal::Head, 6, 0));
+    for head in [SAMPLE_HEAD, 0x4000_0001, 0x4000_4000, 0x4000_4081] {
+        refused(sheet_range(&[head]), (Refusal::Head, 6, 0));
+    }
+    refused(sheet_range(&words[..65]), (Refusal::Words(65), 7, 65));
+    let longer = [words.as_slice(), &[0]].concat();
+    refused(sheet_range(&longer), (Refusal::Words(67), 7, 67));
+    words[65] = END + 1;
+    refused(sheet_range(&words), (Refusal::End(65), 8, 65));
+    words[65] = COEFFICIENT;
+    refused(sheet_range(&words), (Refusal::Words(65), 7, 65));
+    words[64] = coefficient_word(-COEFFICIENT_LIMIT - 1);
+    refused(sheet_range(&words), (Refusal::Coefficient(64), 11, 64));
+    words[63] = coefficient_word(COEFFICIENT_LIMIT + 1);
+    refused(sheet_range(&words), (Refusal::Coefficient(63), 11, 63));
+    words[40] = SAMPLE | 0x0040_0000; // of another kind, and beyond the limit
+    refused(sheet_range(&words), (Refusal::Words(40), 7, 40));
+}
+
+#[test]
 fn sheet_names_width_then_head_then_count_then_lengths() {
     let words = one_block();
     sheet_refuses(&[], 12, (0, 0), (Refusal::Width, 3, 0));
@@ -228,11 +293,11 @@ fn accepted_calls_write_what_they_promise_and_no_more() {
         let (mut coefficients, mut scratch, mut output) = ([0; PLACES], [0; COMPONENTS], [7; 68]);
         assert_eq!(round(&elements, b, &mut coefficients), Ok(()));
         assert_eq!(sheet(&words, b, &mut scratch, &mut output), Ok(66));
-        let made = coefficients.map(|y| 0x3000_0000 | y as u32 & 0x0FFF_FFFF);
+        let made = coefficients.map(coefficient_word);
         assert_eq!(scratch, elements);
         assert_eq!(
             output[..],
-            [&[0x4000_4001], &made[..], &[END, 7, 7]].concat()
+            [&[COEFFICIENT_HEAD], &made[..], &[END, 7, 7]].concat()
         );
     }
 }
@@ -314,6 +379,80 @@ fn what_is_quantized_comes_back_within_four_steps() {
         assert_eq!(again[p], quantized[p] * divisors[p]);
         assert!((again[p] - coefficients[p]).abs() <= divisors[p] / 2);
     }
+}
+
+/// The floats of a block that is accepted; the numbers about them stay as they were.
+fn floats_of(coefficients: &[i32]) -> Vec<f32> {
+    let mut left = vec![f32::from_bits(NO_NUMBER); PLACES + 2];
+    assert_eq!(to_floats(coefficients, &mut left[1..65]), Ok(()));
+    assert_eq!([left[0], left[65]].map(f32::to_bits), [NO_NUMBER; 2]);
+    left[1..65].to_vec()
+}
+
+/// A float is y over the divisor; zero is plus zero.
+fn is_exact(x: f32, y: i32, divisor: i32) -> bool {
+    f64::from(x) * f64::from(divisor) == f64::from(y) && (y != 0 || x.to_bits() == 0)
+}
+
+#[test]
+fn floats_are_exactly_the_eighths_over_8() {
+    let most = COEFFICIENT_LIMIT;
+    let all: Vec<i32> = [-most, most, 0, 1, -1, 237, -237]
+        .into_iter()
+        .chain((0..57).map(|n| n * n * 2579 - most))
+        .collect();
+    for (x, y) in floats_of(&all).into_iter().zip(&all) {
+        assert!(is_exact(x, *y, 8), "{x} is not {y} / 8");
+    }
+}
+
+#[test]
+fn a_block_is_flat_or_has_a_largest_other_coefficient() {
+    for y in [0, 1, -1, 64, -96, COEFFICIENT_LIMIT, -COEFFICIENT_LIMIT] {
+        let mut coefficients = [0; PLACES];
+        coefficients[0] = y;
+        let Ok(Summary::Flat { mean }) = summary(&coefficients) else {
+            panic!("{y} alone at index 0 is not flat");
+        };
+        assert!(is_exact(mean, y, 64));
+        for p in 1..PLACES {
+            let (one, other) = if p % 2 == 0 { (-2, 2) } else { (2, -2) };
+            coefficients[1..].fill(1);
+            (coefficients[63], coefficients[p]) = (other, one);
+            let Ok(Summary::Textured { mean, largest }) = summary(&coefficients) else {
+                panic!("{one} at index {p} is flat");
+            };
+            assert!(is_exact(mean, y, 64) && is_exact(largest, one, 8));
+        }
+    }
+}
+
+#[test]
+fn the_range_of_a_sheet_goes_over_all_its_blocks() {
+    for (low, high) in [(3, 90), (-90, -3), (-5, 70), (0, 8), (-8, 0), (0, 0)] {
+        for (first, last) in [(low, high), (high, low)] {
+            let mut words = vec![coefficient_word((low + high) / 2); sheet_words(2)];
+            (words[0], words[129]) = (COEFFICIENT_HEAD + 1, END + 1);
+            (words[1], words[128]) = (coefficient_word(first), coefficient_word(last));
+            let Range { lowest, highest } = sheet_range(&words).unwrap();
+            assert!(is_exact(lowest, low, 8) && is_exact(highest, high, 8));
+        }
+    }
+}
+
+#[test]
+fn the_range_of_what_sheet_writes_is_that_of_its_floats() {
+    let mut words = one_block();
+    for (n, word) in (0..64).zip(&mut words[1..]) {
+        *word = SAMPLE | (n * n * 37 % 4096 - 2048) as u32 & 0x0FFF_FFFF;
+    }
+    let (mut scratch, mut output, mut coefficients) = ([0; COMPONENTS], [0; 66], [0; PLACES]);
+    assert_eq!(sheet(&words, 26, &mut scratch, &mut output), Ok(66));
+    assert_eq!(round(&scratch, 26, &mut coefficients), Ok(()));
+    let floats = floats_of(&coefficients);
+    let lowest = floats.iter().copied().fold(f32::INFINITY, f32::min);
+    let highest = floats.iter().copied().fold(-f32::INFINITY, f32::max);
+    assert_eq!(sheet_range(&output), Ok(Range { lowest, highest }));
 }
 
 #[test]

@@ -85,6 +85,15 @@ pub passed-before : {end : Returned} (l : List Cause) {rest : List Cause} {r : R
 passed-before [] p R = R
 passed-before (c ∷ l) (p, more) R = passes p (passed-before l more R)
 
+-- an answer a by its number n, as the code reads it
+
+module _ (a : Returned) {n : ℕ} (g : n ≡ a .number) where
+  pub refused-number : (n ≡ 0 → ⊥) → accepted a ≡ false
+  refused-number x = ne-eqb (a .number) 0 (λ z. x (g ∙ z))
+
+  pub accepted-number : n ≡ 0 → T (accepted a)
+  accepted-number z = rw (← g, z) tt
+
 -- what a call leaves
 
 pub accepted-leaves : {A : Type 0} (r : Returned) (result was : A) → T (accepted r) → written r result was ≡ result

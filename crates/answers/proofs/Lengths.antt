@@ -1,4 +1,4 @@
--- The test of the lengths of two buffers, by each of them.
+-- The test of the length of a buffer, and of the lengths of two, by each of them.
 -- Assumes nothing.
 use mathlib.Core.Path.{_≡_}
 use mathlib.Core.Bool.{false, _&&_}
@@ -6,6 +6,9 @@ use Prim.Native.Nat.{ℕ}
 use lib.Dec.{T, eqb, eqb→eq}
 use mir.Facts.{and-yes}
 use borrow.Author.Tests.{eq-eqb, ne-eqb}
+
+pub right : (a n : ℕ) → a ≡ n → T (eqb a n)
+right a n e = rw (eq-eqb a n e) tt
 
 module _ (a n b m : ℕ) where
   pub first-wrong : (a ≡ n → ⊥) → (eqb a n && eqb b m) ≡ false

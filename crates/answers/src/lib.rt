@@ -3,7 +3,7 @@ ghost use mathlib.Core.Path.{_≡_};
 ghost use Rattle.answers.specs.Answer.{returned};
 
 pub enum Answer {
-    // The call did its work: a sheet in this many words, two orientations with the one that they are, every other job with 0.
+    // The call did its work: sheet in this many words, two orientations with the one that they are, every other job with 0.
     Accepted(usize),
     // A buffer does not have the length that the job asks for.
     Lengths,
@@ -25,7 +25,7 @@ pub enum Answer {
     Orientation,
     // The quantization step at this index of the list is out of range.
     Step(usize),
-    // The coefficient at this index, which is to be quantized or was dequantized, is beyond its limit.
+    // The coefficient at this index of a block, or in the word at this index of a sheet, is beyond its limit.
     Coefficient(usize),
 }
 

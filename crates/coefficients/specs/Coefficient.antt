@@ -1,4 +1,4 @@
--- The limit of a block's coefficients in eighths, where they come in from outside (02, request 2).
+-- The limit of a block's coefficients in eighths, where they come in from outside (02, requests 2 and 4).
 use mathlib.Core.Bool.{Bool}
 use mathlib.Core.List.{List}
 use Prim.Native.Nat.{ℕ}

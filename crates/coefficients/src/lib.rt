@@ -1,4 +1,4 @@
-// The limit of a block's coefficients in eighths, where they come in from outside (02, request 2): which of them is the first beyond it?
+// The limit of a block's coefficients in eighths, where they come in from outside (02, requests 2 and 4): which of them is the first beyond it?
 ghost use mathlib.Core.Path.{_≡_};
 ghost use lib.ListN.{length};
 ghost use Rattle.integers.specs.Search.{any, first};

@@ -6,6 +6,7 @@ pub mod Nearest
 pub mod Signed
 pub mod Sums
 pub mod Search
+pub mod Foremost
 pub mod Tables
 pub mod Overwriting
 pub mod Tests

@@ -9,7 +9,7 @@ use native.Mathlib.Decide.{ℕ-discrete, decLt}
 use native.Mathlib.Numerals.{add-one}
 use native.Mathlib.Omega.{arith}
 use lib.Dec.{T, ltb, leb·suc-suc}
-use borrow.Author.Tests.{lt-ltb, ltb-false}
+use borrow.Author.Tests.{lt-ltb, le-ltb, ltb-false}
 use Rattle.integers.specs.Search.{first, any}
 
 -- the test f fails at each index below i, and i is at most n: what a search knows at i
@@ -116,7 +116,15 @@ module _ {n : ℕ} {f : ℕ → Bool} where
   pub asked-all : {i : ℕ} {r : Bool} → n ≤ i → Asked n f i r → r ≡ any n f
   asked-all {i} h A = let all : i ≡ n = omega (arith, A .room) in rw all at (A .so-far)
 
+-- one does
+pub any-at : (n : ℕ) (f : ℕ → Bool) (k : ℕ) → k < n → f k ≡ true → any n f ≡ true
+any-at n f k h e = lt-ltb (first n f) n (first-below n f k h e)
+
 -- none does
+
+pub none-any : (n : ℕ) (f : ℕ → Bool) → ((k : ℕ) → k < n → f k ≡ false) → any n f ≡ false
+none-any n f h = rw (first-none n f (record { room = le-refl n; fails = h })) (le-ltb n n (le-refl n))
+
 pub any-none : (n : ℕ) (f : ℕ → Bool) → any n f ≡ false → (k : ℕ) → k < n → f k ≡ false
 any-none n f e k h = before-first n f k (lt-of-lt-of-le h (ltb-false (first n f) n e))
 

@@ -2,12 +2,13 @@
 -- width w. These laws hide that.
 -- Assumes nothing.
 use mathlib.Core.Path.{_≡_, ap₂, _∙_}
+use mathlib.Core.Bool.{Bool}
 use Prim.Native.Nat.{ℕ, _+_, _^_, _≤_, _<_}
 use native.Mathlib.Nat.{lt-of-le-of-lt, lt-trans}
 use native.Mathlib.Omega.{arith}
 use lib.Dec.{lit<}
 use lib.IntN.{ℤ, pos, _-ℤ_, negℤ, natAbs, +ℤ-idl}
-use lib.Signed.{shrZ, mag-shr, natAbs-le}
+use lib.Signed.{ltZ, shrZ, mag-shr, natAbs-le}
 use mir.Syntax.{Width, w32, w64}
 use mir.Val.{Fits, SFits, hbits, ofZ, toZ}
 use mir.ValLaws.{toZ-ofZ}
@@ -29,6 +30,10 @@ read-i64 z h = toZ-ofZ w64 z h
 
 pub kept : (w : Width) (z : ℤ) → natAbs z < 2 ^ hbits w → toZ w (ofZ w z) ≡ z
 kept w z h = toZ-ofZ w z (small-fits w z h)
+
+-- a comparison of two i32 as they are read
+pub compared : (x y : ℤ) {t : Bool} → SFits w32 x → SFits w32 y → ltZ (in32 x) (in32 y) ≡ t → ltZ x y ≡ t
+compared x y h k e = rw (read-i32 x h, read-i32 y k) at e
 
 -- divided by m and rounded down, as a shift does it
 pub shift-kept : (w : Width) (z : ℤ) (m : ℕ) → SFits w z → toZ w (ofZ w (shrZ (toZ w (ofZ w z)) m)) ≡ shrZ z m

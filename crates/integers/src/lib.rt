@@ -1,7 +1,7 @@
-// Sum and difference of two i32 as functions, so that a store of one into an array asks only that it fits; the magnitude of an i32, as a u64,
-// since that of -2^31 is no i32; and whether an i32 lies outside a range.
+// Sum and difference of two i32 as functions, so that a store of one into an array asks only that it fits; the lower and the higher of two; the
+// magnitude of an i32, as a u64, since that of -2^31 is no i32; and whether an i32 lies outside a range.
 ghost use mathlib.Core.Path.{_≡_};
-ghost use mathlib.Core.Bool.{_||_};
+ghost use mathlib.Core.Bool.{cond, _||_};
 ghost use lib.IntN.{_+ℤ_, _-ℤ_, natAbs};
 ghost use lib.Signed.{ltZ};
 ghost use mir.Val.{SFits};
@@ -21,6 +21,26 @@ pub fn minus(x: i32, y: i32) -> i32
     ensures { λ r. ⌜ r ≡ x -ℤ y ⌝ }
 {
     x - y
+}
+
+// The lower of the two.
+pub fn lower(x: i32, y: i32) -> i32
+    ensures { λ r. ⌜ r ≡ cond (ltZ y x) y x ⌝ }
+{
+    if y < x {
+        return y;
+    }
+    x
+}
+
+// The higher of the two.
+pub fn higher(x: i32, y: i32) -> i32
+    ensures { λ r. ⌜ r ≡ cond (ltZ x y) y x ⌝ }
+{
+    if x < y {
+        return y;
+    }
+    x
 }
 
 // The magnitude of x. That of -2^31 is 2^31, which no i32 holds.

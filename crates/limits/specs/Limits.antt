@@ -66,7 +66,7 @@ blocks-limit = 128
 abbrev pub step-limit : ℕ
 step-limit = 1024
 
--- the largest magnitude of a coefficient in eighths that is quantized
+-- the largest magnitude of a coefficient in eighths that comes in from outside, to be quantized or, of request 4, made a float
 abbrev pub coefficient-limit : ℕ
 coefficient-limit = 4194303
 

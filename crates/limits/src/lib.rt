@@ -23,7 +23,7 @@ pub const BLOCKS_LIMIT: usize = 128;
 // The largest quantization step.
 pub const STEP_LIMIT: u32 = 1024;
 
-// The largest magnitude of a coefficient that is quantized.
+// The largest magnitude of a coefficient that comes in from outside.
 pub const COEFFICIENT_LIMIT: i32 = 4194303;
 
 // The largest magnitude of one that is dequantized.

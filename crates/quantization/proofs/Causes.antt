@@ -1,24 +1,22 @@
 -- The causes of a refusal, in order: one law for each way out of `check`, and of a job that looks for a place beyond its limit after it; both jobs do.
 -- Assumes nothing.
-use mathlib.Core.Path.{_≡_, refl, sym, _∙_}
-use mathlib.Core.Bool.{Bool, false}
+use mathlib.Core.Path.{_≡_, refl}
+use mathlib.Core.Bool.{Bool}
 use mathlib.Core.List.{List, [], _∷_}
 use Prim.Native.Nat.{ℕ, _≤_, _<_}
-use lib.Dec.{T, eqb, eqb→eq, lit<}
+use lib.Dec.{eqb→eq, lit<}
 use lib.ListN.{length}
-use borrow.Author.Tests.{eq-eqb, ne-eqb}
+use borrow.Author.Tests.{ne-eqb}
 use Rattle.integers.specs.Search.{first}
 use Rattle.limits.specs.Limits.{places}
-use Rattle.answers.specs.Answer.{Returned, Each, Passes, Reason, holds, fails, passes, none-holds, lowest, answered, accept, accepted, written}
+use Rattle.answers.specs.Answer.{Returned, Each, Passes, Reason, holds, fails, passes, none-holds, lowest, answered, accept, written}
 use Rattle.answers.proofs.Causes as causes
-use Rattle.answers.proofs.Causes.{found, not-found, only-reason, some-reason, refused-before, passed-before, ends-refused, ends-accepted}
+use Rattle.answers.proofs.Causes.{found, not-found, only-reason, some-reason, refused-before, passed-before, refused-number, accepted-number, ends-refused, ends-accepted}
+use Rattle.answers.proofs.Lengths.{right}
 use Rattle.quantizer.specs.Quantizer.{step-outside-at}
 use Rattle.quantization.specs.Quantization as spec
 use Rattle.quantization.specs.Quantization.{step-causes}
 use Rattle.quantization.specs.Preconditions.{Ready, Allowed}
-
-right : (a b : ℕ) → a ≡ b → T (eqb a b)
-right a b e = rw (eq-eqb a b e) tt
 
 -- causes 1 and 10
 
@@ -70,8 +68,7 @@ module _ (n : ℕ) (steps : List ℕ) (m : ℕ) where
   module _ {a : Returned} (e : a ≡ answered (step-causes n steps m) accept) {k : ℕ} (g : k ≡ a .number) (z : k ≡ 0) where
     passed : Each Passes (step-causes n steps m)
     passed =
-        let h : T (accepted a) = right (a .number) 0 (sym g ∙ z) in
-        causes.accepted-means (step-causes n steps m) accept (lit< tt, (lit< tt, (lit< tt, ((λ i f. lit< tt), tt)))) (rw e at h)
+        causes.accepted-means (step-causes n steps m) accept (lit< tt, (lit< tt, (lit< tt, ((λ i f. lit< tt), tt)))) (rw e at (accepted-number a g z))
 
     pub ready : Ready n steps m
     ready = passes-ready passed
@@ -97,7 +94,7 @@ module _ (faulty : ℕ → Bool) (n : ℕ) (steps : List ℕ) (m : ℕ) where
     module _ {a : Returned} (e : a ≡ answered (step-causes n steps m) accept) {k : ℕ} (g : k ≡ a .number) where
       pub refused-check : (k ≡ 0 → ⊥) → Promised a was
       refused-check x =
-          let h : accepted a ≡ false = ne-eqb (a .number) 0 (λ z. x (g ∙ z)) in
+          let h = refused-number a g x in
           let R : Reason accept (step-causes n steps m) a = rw e (some-reason (step-causes n steps m) accept) in
           ends-refused (spec.causes faulty n steps m) 0 result was (refused-before (lowest places faulty 11 ∷ []) tt h R) h
 

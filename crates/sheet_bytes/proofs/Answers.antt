@@ -7,14 +7,13 @@ use native.Mathlib.Omega.{arith}
 use lib.Dec.{T}
 use lib.IntN.{ℤ, pos}
 use lib.ListN.{length, take, replicate, length-replicate}
-use borrow.Author.Tests.{ne-eqb}
 use Rattle.integers.specs.Table.{over}
 use Rattle.integers.proofs.Overwriting.{length-over, take-over}
 use Rattle.integers.proofs.Tables.{length-table}
 use Rattle.integers.proofs.Tests.{holds}
 use Rattle.limits.specs.Limits.{components-size}
 use Rattle.answers.specs.Answer.{Returned, accepted}
-use Rattle.answers.proofs.Causes.{accepted-leaves}
+use Rattle.answers.proofs.Causes.{refused-number, accepted-leaves}
 use Rattle.sheet_checks.specs.Check.{word-at}
 use Rattle.sheet_blocks.specs.Blocks.{output-word, coefficient-sheet}
 use Rattle.sheets.specs.Sheet.{sheet-returned, sheet-output}
@@ -48,7 +47,7 @@ module _ (words : List ℕ) (r : Returned) (e : r ≡ sheet-returned words progr
 
   -- it is refused
   pub refused : (n ≡ 0 → ⊥) → refusal-line (record { number = n; place = p }) ≡ bytes-for words
-  refused h = rw (f, g, ← is-answer, ne-eqb (r .number) 0 (λ z. h (f ∙ z)))
+  refused h = rw (f, g, ← is-answer, refused-number r f h)
 
   -- it is accepted
   pub written : (left : List ℕ) → n ≡ 0 → left ≡ sheet-output words program-width scratch made → Written words left p

@@ -21,7 +21,7 @@ use Rattle.answers.specs.Answer.{Returned, faulty-at, accept-words, answered, h
 use Rattle.answers.proofs.Causes.{only-reason}
 use Rattle.sheet_checks.specs.declared.Format.{Format}
 use Rattle.sheet_checks.specs.declared.Values.{Values}
-use Rattle.sheet_checks.specs.declared.Values.the-variants.{Samples}
+use Rattle.sheet_checks.specs.declared.Values.the-variants.{Samples, Coefficients}
 use Rattle.sheet_checks.specs.Check.{out-of-range, outside, word-at, blocks, body-cause, end-cause, cause-at, faulty, contents}
 
 -- the cause of a word of the body
@@ -29,6 +29,7 @@ use Rattle.sheet_checks.specs.Check.{out-of-range, outside, word-at, blo
 -- a refusal has a number
 pub value-named : (v : Values) → 0 < out-of-range v
 value-named Samples = omega arith
+value-named Coefficients = omega arith
 
 module _ (f : Format) (w : ℕ) where
   pub other-kind : (kind w ≡ f .body → ⊥) → body-cause f w ≡ 7

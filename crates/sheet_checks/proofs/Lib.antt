@@ -2,3 +2,4 @@
 pub mod Heads
 pub mod Faults
 pub mod Sheets
+pub mod Causes

@@ -3,19 +3,20 @@
 use mathlib.Core.Path.{_≡_, sym, ap, subst, _∙_}
 use mathlib.Core.Bool.{true, false}
 use mathlib.Core.List.{List, [], _∷_}
-use Prim.Native.Nat.{ℕ, zero, suc, _-_, _<_}
+use Prim.Native.Nat.{ℕ, zero, suc, _-_, _≤_, _<_}
 use native.Mathlib.Nat.{mul-pos}
 use native.Mathlib.Decide.{ℕ-discrete}
 use native.Mathlib.Omega.{arith}
 use lib.Dec.{T, ltb, eqb, eqb→eq}
+use lib.IntN.{natAbs}
 use lib.ListN.{length}
 use borrow.Author.Tests.{eq-eqb, lt-ltb, ltb-true, ltb-false, not-false}
-use Rattle.limits.specs.Limits.{in-range, sample-limit}
-use Rattle.limits.proofs.Range.{outside-range}
+use Rattle.limits.specs.Limits.{coefficient-limit, in-range, sample-limit}
+use Rattle.limits.proofs.Range.{outside-limit, outside-range}
 use Rattle.words.specs.Word.{end-kind, kind, payload, value}
 use Rattle.answers.specs.Answer.{Returned, Passes, Names, faulty-at, Each, Reason, holds, passes, none-holds, accept-words, accepted}
 use Rattle.sheet_checks.specs.declared.Format.{Format}
-use Rattle.sheet_checks.specs.Check.{sample-format, outside, word-at, blocks, size-of, has-head, shape, body-cause, end-cause, cause-at, contents}
+use Rattle.sheet_checks.specs.Check.{sample-format, coefficient-format, outside, word-at, blocks, size-of, has-head, shape, body-cause, end-cause, cause-at, contents}
 use Rattle.sheet_checks.specs.Sheets as sheets
 use Rattle.sheet_checks.specs.Sheets.{RightShape, RightSheet, WordFault}
 use Rattle.sheet_checks.proofs.Faults.{value-named, other-kind, of-kind, asked, other-value, no-end, right-end, wrong-end, cause-head, cause-body, cause-end}
@@ -153,3 +154,10 @@ pub samples-in-range : {words : List ℕ} → RightSheet sample-format words →
 samples-in-range {words} S i p q =
     let z = value (payload (word-at words i)) in
     not-false (in-range z) (sym (outside-range (sample-limit - 1) z) ∙ S .body-range i p q)
+
+-- the coefficients of a coefficient sheet are within their limit
+pub coefficients-in-limit : {words : List ℕ} → RightSheet coefficient-format words → (i : ℕ) → 0 < i → suc i < length words
+    → natAbs (value (payload (word-at words i))) ≤ coefficient-limit
+coefficients-in-limit {words} S i p q =
+    let z = value (payload (word-at words i)) in
+    ltb-false coefficient-limit (natAbs z) (sym (outside-limit (coefficient-limit - 1) z) ∙ S .body-range i p q)

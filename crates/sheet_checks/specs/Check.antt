@@ -1,21 +1,22 @@
 -- The check of a sheet of any format (01, "Sheets" and "Why a set or sheet is turned back").
 use mathlib.Core.Bool.{Bool, cond, _&&_, _||_}
-use mathlib.Core.List.{List, [], _∷_}
+use mathlib.Core.List.{List, [], _∷_, _++_}
 use Prim.Native.Nat.{ℕ, suc, _+_, _-_, _*_}
 use lib.Dec.{eqb, ltb, leb}
 use lib.IntN.{ℤ, pos, negℤ}
 use lib.ListN.{length, getD}
 use lib.Signed.{ltZ}
-use Rattle.limits.specs.Limits.{places, blocks-limit, sample-limit}
-use Rattle.words.specs.Word.{across, down, end-kind, kind, payload, sample-head-kind, sample-kind, value}
+use Rattle.limits.specs.Limits.{places, blocks-limit, coefficient-limit, sample-limit}
+use Rattle.words.specs.Word.{across, coefficient-head-kind, coefficient-kind, down, end-kind, kind, payload, sample-head-kind, sample-kind, value}
 use Rattle.answers.specs.Answer.{Cause, unless, unless-at, lowest-cause}
 use Rattle.sheet_checks.specs.declared.Format.{Format}
 use Rattle.sheet_checks.specs.declared.Values.{Values}
-use Rattle.sheet_checks.specs.declared.Values.the-variants.{Samples}
+use Rattle.sheet_checks.specs.declared.Values.the-variants.{Samples, Coefficients}
 
 -- the number that refuses a value out of its format's range
 abbrev pub out-of-range : Values → ℕ
 out-of-range Samples = 2
+out-of-range Coefficients = 11
 
 -- a value is out of the range of a format
 abbrev pub outside : Format → ℤ → Bool
@@ -25,6 +26,11 @@ outside f z = ltZ z (f .lowest) || ltZ (f .highest) z
 abbrev pub sample-format : Format
 sample-format =
     record { head = sample-head-kind; body = sample-kind; values = Samples; lowest = negℤ (pos sample-limit); highest = pos (sample-limit - 1) }
+
+-- the format of a coefficient sheet that comes in from outside (02, request 4): "with kinds 4 and 3; a payload beyond the limit is 11"
+abbrev pub coefficient-format : Format
+coefficient-format =
+    record { head = coefficient-head-kind; body = coefficient-kind; values = Coefficients; lowest = negℤ (pos coefficient-limit); highest = pos coefficient-limit }
 
 -- word i of a sheet
 abbrev pub word-at : List ℕ → ℕ → ℕ
@@ -77,3 +83,7 @@ faulty f words i = ltb 0 (cause-at f words i)
 -- "then the first faulty word"
 abbrev pub contents : Format → List ℕ → Cause
 contents f words = lowest-cause (length words) (cause-at f words)
+
+-- the causes of a sheet, for a job that asks for no others
+abbrev pub check-causes : Format → List ℕ → List Cause
+check-causes f words = shape f words ++ contents f words ∷ []

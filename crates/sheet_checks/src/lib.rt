@@ -12,11 +12,15 @@ ghost use Rattle.answers.specs.Answer.{accept-words, answered, returned};
 ghost use Rattle.sheet_checks.specs.Check as check;
 ghost use Rattle.sheet_checks.specs.Sheets.{RightShape};
 use answers::Answer;
+use answers::number;
 use integers::outside;
 use limits::BLOCKS_LIMIT;
+use limits::COEFFICIENT_LIMIT;
 use limits::HIGHEST_SAMPLE;
 use limits::LOWEST_SAMPLE;
 use limits::PLACES;
+use words::COEFFICIENT;
+use words::COEFFICIENT_HEAD;
 use words::END;
 use words::SAMPLE;
 use words::SAMPLE_HEAD;
@@ -27,6 +31,7 @@ use words::value;
 // What the words of a sheet's body hold.
 pub enum Values {
     Samples,
+    Coefficients,
 }
 
 // What the words of a sheet have to be.
@@ -47,6 +52,15 @@ pub const SAMPLE_FORMAT: Format = Format {
     values: Values::Samples,
     lowest: LOWEST_SAMPLE,
     highest: HIGHEST_SAMPLE,
+};
+
+// A sheet of coefficients.
+pub const COEFFICIENT_FORMAT: Format = Format {
+    head: COEFFICIENT_HEAD,
+    body: COEFFICIENT,
+    values: Values::Coefficients,
+    lowest: -COEFFICIENT_LIMIT,
+    highest: COEFFICIENT_LIMIT,
 };
 
 // The words of a sheet of n blocks: a head, the blocks and an end word.
@@ -131,6 +145,7 @@ fn out_of_range(v: Values, i: usize) -> Answer
 {
     match v {
         Values::Samples => Answer::Sample(i),
+        Values::Coefficients => Answer::Coefficient(i),
     }
 }
 
@@ -186,4 +201,15 @@ pub fn check_words(f: Format, sheet: &[u32]) -> Answer
         return first_faulty(f, n, sheet);
     }
     Answer::Accepted(sheet.len())
+}
+
+// The whole check, of a job that asks for nothing else.
+pub fn check_sheet(f: Format, sheet: &[u32]) -> Answer
+    ensures { λ r. ⌜ returned r ≡ answered (check.check-causes f (now (sheet .entry))) (accept-words (length (now (sheet .entry)))) ⌝ }
+{
+    let shape = check_shape(f, sheet);
+    if number(shape) != 0 {
+        return shape;
+    }
+    check_words(f, sheet)
 }

@@ -13,11 +13,12 @@ use Rattle.integers.specs.Table.{over}
 use Rattle.limits.specs.Limits.{components-size}
 use Rattle.answers.specs.Answer.{Returned, Cause, Reason, holds, fails, passes, answered, accept-words, accepted, unless}
 use Rattle.answers.proofs.Causes as causes
-use Rattle.answers.proofs.Causes.{some-reason, only-reason, refused-before, passed-before}
+use Rattle.answers.proofs.Causes.{some-reason, only-reason, refused-before, passed-before, refused-number, accepted-number}
 use Rattle.element_sets.specs.Sets.{elements-of}
 use Rattle.rounding.specs.Tables.{width}
 use Rattle.sheet_checks.specs.Check.{sample-format, blocks, shape, cause-at, contents}
 use Rattle.sheet_checks.specs.Sheets.{RightShape, RightSheet, WordFault}
+use Rattle.sheet_checks.proofs.Causes as checks
 use Rattle.sheet_checks.proofs.Sheets.{right-shape, shape-passes, contents-pass, right-sheet, refused-word}
 use Rattle.sheet_blocks.specs.Preconditions.{Checked}
 use Rattle.sheet_blocks.specs.Blocks.{block, coefficient-sheet}
@@ -57,15 +58,12 @@ module _ (words : List ℕ) (b s o : ℕ) where
       pub wrong-shape : (n ≡ 0 → ⊥) → a ≡ sheet-returned words b s o
       wrong-shape x =
           let R : Reason end (shape sample-format words) a = rw f (some-reason (shape sample-format words) end) in
-          returned (passes at-width (refused-before past-shape tt (ne-eqb (a .number) 0 (λ z. x (g ∙ z))) R))
+          returned (passes at-width (refused-before past-shape tt (refused-number a g x) R))
 
       -- past the shape
       module _ (z : n ≡ 0) where
         pub shaped : RightShape sample-format words
-        shaped =
-            let k : T (accepted a) = rw (eq-eqb (a .number) 0 (sym g ∙ z)) tt in
-            let (h, rest) = causes.accepted-means (shape sample-format words) end (lit< tt, (lit< tt, tt)) (rw f at k) in
-            right-shape sample-format words h (rest .0)
+        shaped = checks.shaped sample-format words f g z
 
         past : {r : Returned} → Reason end past-shape r → r ≡ sheet-returned words b s o
         past R = returned (passes at-width (passed-before (shape sample-format words) (shape-passes sample-format words shaped) R))
@@ -128,12 +126,12 @@ module _ (words : List ℕ) (b : ℕ) (scratch : List ℤ) (output : List ℕ) {
   pub refused-sheet : (n ≡ 0 → ⊥) → Promised scratch output
   unfolding sheet-scratch sheet-output
   refused-sheet x =
-      let refused = ne-eqb (a .number) 0 (λ z. x (f ∙ z)) in
+      let refused = refused-number a f x in
       (e, (rw (← e, refused), rw (← e, refused)))
 
   module _ (z : n ≡ 0) where
     is-accepted : T (accepted a)
-    is-accepted = rw (← f, z) tt
+    is-accepted = accepted-number a f z
 
     pub checked : Checked words b (length scratch) (length output)
     checked = accepted-checked words b (length scratch) (length output) (rw e at is-accepted)

@@ -3,23 +3,28 @@
 //
 // Of every function here: it takes any numbers and buffers of any length, and returns. Its contract has no `requires`, and says for every input what
 // it returns and what every buffer that it may write holds afterwards: the whole result, or one refusal with its place, and then each buffer is
-// as it was. It keeps nothing between calls. What a caller in another language has to see to, because no function can look at it, the header says.
+// as it was and every float that is returned plus zero. It keeps nothing between calls. What a caller in another language has to see to, because
+// no function can look at it, the header says.
 ghost use mathlib.Core.Path.{_≡_};
 ghost use lib.Dec.{T};
 ghost use lib.ListN.{length};
 ghost use Rattle.answers.specs.Answer.{accepted, returned};
+ghost use Rattle.block_floats.specs.Summary.{summarized, summary-given};
+ghost use Rattle.block_floats.specs.ToFloats.{to-floats-floats, to-floats-returned};
 ghost use Rattle.inverse.specs.Back.{back-returned, back-samples};
 ghost use Rattle.quantization.specs.Quantization.{dequantize-coefficients, dequantize-returned, quantize-returned, quantize-values};
 ghost use Rattle.reorientation.specs.Reorient.{compose-returned, reorient-output, reorient-returned};
 ghost use Rattle.rounding.specs.Rounding.{AllNear, round-coefficients, round-returned};
+ghost use Rattle.sheet_range.specs.SheetRange.{range-highest, range-lowest, range-returned};
 ghost use Rattle.sheets.specs.Sheet.{sheet-output, sheet-returned, sheet-scratch};
 ghost use Rattle.transform.specs.Forward.{forward-elements, forward-returned};
-ghost use Rattle.weld_dct.specs.Returned.{number-and-place};
+ghost use Rattle.weld_dct.specs.Returned.{number-and-place, summary-record};
 use answers::Answer;
 use answers::number;
 use answers::place;
+use block_floats::BlockSummary;
 
-// What every function returns: 0 for an accepted call, and the number of the refusal otherwise; and the place.
+// What the functions return, two of them with floats beside it: 0 for an accepted call, and the number of the refusal otherwise; and the place.
 #[repr(C)]
 pub struct Returned {
     number: u32,
@@ -124,4 +129,66 @@ pub extern "C" fn weld_dct_dequantize(
     ensures { λ r. ⌜ now (coefficients .exit) ≡ dequantize-coefficients (now (quantized .entry)) (now (steps .entry)) (now (coefficients .entry)) ⌝ }
 {
     told(quantization::dequantize(quantized, steps, coefficients))
+}
+
+// 64 coefficients as floats.
+#[no_mangle]
+pub extern "C" fn weld_dct_to_floats(coefficients: &[i32], floats: &mut [f32]) -> Returned
+    ensures { λ r. ⌜ number-and-place r ≡ to-floats-returned (now (coefficients .entry)) (length (now (floats .entry))) ⌝ }
+    ensures { λ r. ⌜ now (floats .exit) ≡ to-floats-floats (now (coefficients .entry)) (now (floats .entry)) ⌝ }
+{
+    told(block_floats::to_floats(coefficients, floats))
+}
+
+// What weld_dct_summary returns: the number and place, which lie as if they were fields of its own, 1 for a textured block, and the floats.
+#[repr(C)]
+pub struct SummaryReturned {
+    returned: Returned,
+    textured: u32,
+    mean: f32,
+    largest: f32,
+}
+
+// The papers' number and place of a summary, and what stands beside them.
+fn told_summary(s: BlockSummary) -> SummaryReturned
+    ensures { λ r. ⌜ summary-record r ≡ summarized s ⌝ }
+{
+    SummaryReturned {
+        returned: told(block_floats::answer(s)),
+        textured: block_floats::textured(s),
+        mean: block_floats::mean(s),
+        largest: block_floats::largest(s),
+    }
+}
+
+// A block in its mean grey and its largest other coefficient.
+#[no_mangle]
+pub extern "C" fn weld_dct_summary(coefficients: &[i32]) -> SummaryReturned
+    ensures { λ r. ⌜ summary-record r ≡ summary-given (now (coefficients .entry)) ⌝ }
+{
+    told_summary(block_floats::summary(coefficients))
+}
+
+// What weld_dct_sheet_range returns: the number and place, likewise, and the floats.
+#[repr(C)]
+pub struct RangeReturned {
+    returned: Returned,
+    lowest: f32,
+    highest: f32,
+}
+
+// The lowest and the highest float of a coefficient sheet.
+#[no_mangle]
+pub extern "C" fn weld_dct_sheet_range(words: &[u32]) -> RangeReturned
+    ensures { λ r. ⌜ number-and-place (r .returned) ≡ range-returned (now (words .entry)) ⌝ }
+    ensures { λ r. ⌜ r .lowest ≡ range-lowest (now (words .entry)) ⌝ }
+    ensures { λ r. ⌜ r .highest ≡ range-highest (now (words .entry)) ⌝ }
+{
+    let ranged = sheet_range::sheet_range(words);
+    let answer = ranged.answer;
+    RangeReturned {
+        returned: told(answer),
+        lowest: ranged.range.lowest,
+        highest: ranged.range.highest,
+    }
 }

@@ -1,8 +1,8 @@
 -- Packing and unpacking are inverse, on the ranges of kinds, payloads, values and sizes.
 -- Assumes nothing.
-use mathlib.Core.Path.{_≡_, refl, ap, subst, _∙_}
+use mathlib.Core.Path.{_≡_, refl, sym, ap, subst, _∙_}
 use mathlib.Core.Bool.{true, false}
-use Prim.Native.Nat.{ℕ, suc, _+_, _-_, _*_, _^_, _≤_, _<_, zero-le}
+use Prim.Native.Nat.{ℕ, suc, _+_, _-_, _*_, _%_, _^_, _≤_, _<_, zero-le}
 use native.Mathlib.Decide.{decLt}
 use native.Mathlib.Nat.{not-suc-le-zero, lt-of-le-of-lt}
 use native.Mathlib.Omega.{arith}
@@ -48,16 +48,36 @@ small-in-range (negsuc n) h = (record { le = le→leb n (value-limit - 1) (omega
 
 -- the two halves: payloads without the sign bit, and with it
 
-pub value-low : (p : ℕ) → p < value-limit → value p ≡ pos p
+value-low : (p : ℕ) → p < value-limit → value p ≡ pos p
 unfolding value
 value-low p h = rw (lt-ltb p value-limit h) refl
 
-pub value-high : (p : ℕ) → value-limit ≤ p → value p ≡ pos p -ℤ pos payloads
+value-high : (p : ℕ) → value-limit ≤ p → value p ≡ pos p -ℤ pos payloads
 unfolding value
 value-high p h = rw (le-ltb p value-limit h) refl
 
 value-negsuc : (p : ℕ) → value-limit ≤ p → p < payloads → value p ≡ negsuc (payloads - suc p)
 value-negsuc p h l = value-high p h ∙ rw (lt-ltb p payloads l) refl
+
+-- how many values are negative; and of the value of a payload p how many are lower
+
+abbrev pub negatives : ℕ
+negatives = payloads - value-limit
+
+abbrev pub rank : ℕ → ℕ
+rank p = (p + negatives) % payloads
+
+-- a value by its rank
+pub value-ranked : (p : ℕ) → p < payloads → pos (rank p) -ℤ pos negatives ≡ value p
+value-ranked p h = go (decLt p value-limit)
+  where
+    go : Dec (p < value-limit) → pos (rank p) -ℤ pos negatives ≡ value p
+    go (yes l) =
+        let e : rank p ≡ p + negatives = omega arith in
+        rw (e, le-ltb (p + negatives) negatives (omega arith)) (ap pos (omega arith) ∙ sym (value-low p l))
+    go (no l) =
+        let e : rank p ≡ p - value-limit = omega arith in
+        rw (e, lt-ltb (p - value-limit) negatives (omega arith)) (ap negsuc (omega arith) ∙ sym (value-negsuc p (omega arith) h))
 
 payload-of-pos : (n : ℕ) → payload-of (pos n) ≡ n
 unfolding payload-of

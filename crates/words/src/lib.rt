@@ -18,8 +18,8 @@ pub const END: u32 = 15;
 // How many payloads there are: 2^28.
 const PAYLOADS: u32 = 268435456;
 
-// The values of a payload go from -2^27 to 2^27 - 1.
-const VALUE_LIMIT: u32 = PAYLOADS / 2;
+// How many of their values are negative: those from -2^27 to -1.
+const NEGATIVES: u32 = PAYLOADS / 2;
 
 // A negative value and its payload are 2^28 apart.
 const MODULUS: i32 = PAYLOADS as i32;
@@ -41,15 +41,13 @@ pub fn payload(w: u32) -> u32
     w % PAYLOADS
 }
 
-// Its payload as a value.
+// Its payload as a value, by way of the rank: how many values are lower. This needs no comparison, and the compiler makes two shifts of it.
 pub fn value(w: u32) -> i32
     ensures { λ r. ⌜ r ≡ words.value (words.payload w) ⌝ }
 {
     let p = w % PAYLOADS;
-    if p < VALUE_LIMIT {
-        return p as i32;
-    }
-    p as i32 - MODULUS
+    let rank = (p + NEGATIVES) % PAYLOADS;
+    rank as i32 - NEGATIVES as i32
 }
 
 // The word of a kind k and a payload p.

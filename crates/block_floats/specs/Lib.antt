@@ -1,0 +1,3 @@
+pub mod Preconditions
+pub mod ToFloats
+pub mod Summary

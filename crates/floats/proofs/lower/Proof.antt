@@ -1,0 +1,13 @@
+-- `lower` meets its contract: each way out returns what `cond` picks.
+-- Assumes nothing.
+use Rattle.floats.proofs.lower.Statement.{statement}
+use Rattle.floats.proofs.lower.Tie as tie
+
+returns : tie.Need-returns
+returns c = rw (c .if1 .taken)
+
+returns-2 : tie.Need-returns-2
+returns-2 c = rw (c .if1 .left)
+
+pub lower-spec : {M : Type 1} → statement M
+lower-spec = tie.close (tie.spec returns returns-2)

@@ -1,0 +1,153 @@
+-- What a call of `sheet_range` gives, in 02's words (request 4); and that what `sheet` writes is a sheet that it accepts.
+-- Assumes nothing.
+use mathlib.Core.Path.{_≡_, sym, ap, ap₂, _∙_}
+use mathlib.Core.Bool.{false}
+use mathlib.Core.List.{List}
+use Prim.Native.Nat.{ℕ, suc, _+_, _-_, _*_, _/_, _%_, _≤_, _<_}
+use native.Mathlib.Nat.{le-trans, div-add-mod, mod-lt}
+use native.Mathlib.Omega.{arith}
+use lib.Dec.{T, lit<, lit≤}
+use lib.Ieee.{le}
+use lib.Ieee.Exact.{HasValue}
+use lib.IntN.{ℤ, pos, natAbs}
+use lib.ListN.{length, getD}
+use borrow.Author.Tests.{le-ltb}
+use Rattle.integers.proofs.Foremost.{Best, range-best}
+use Rattle.limits.specs.Limits.{places, coefficient-limit}
+use Rattle.limits.proofs.Range.{outside-limit}
+use Rattle.answers.specs.Answer.{accept, accepted}
+use Rattle.answers.proofs.Causes as causes
+use Rattle.floats.specs.Fraction.{negative, plus-zero}
+use Rattle.floats.proofs.Comparison.{in-order-at-most}
+use Rattle.floats.proofs.Fractions.{exact}
+use Rattle.element_sets.proofs.Blocks.{block-set}
+use Rattle.rounding.proofs.Blocks.{coefficient-size}
+use Rattle.words.specs.Word.{across, coefficient-head-kind, coefficient-kind, down, kind, payload}
+use Rattle.sheet_checks.specs.Check.{sample-format, coefficient-format, outside, word-at, blocks, size-of}
+use Rattle.sheet_checks.specs.Sheets.{RightShape, RightSheet}
+use Rattle.sheet_checks.proofs.Sheets.{some-blocks}
+use Rattle.sheet_blocks.specs.Blocks.{block, block-coefficients}
+use Rattle.sheet_blocks.specs.Preconditions.{Checked}
+use Rattle.sheet_blocks.proofs.Samples.{block-range, block-words}
+use Rattle.sheets.specs.Sheet.{sheet-output, sheet-returned}
+use Rattle.sheets.proofs.Causes.{accepted-checked}
+use Rattle.sheets.proofs.Meaning as sheets
+use Rattle.sheet_range.specs.SheetRange.{range-returned, value-at, float-at, has-lower, has-higher, lowest-word, highest-word, lowest-float, highest-float, range-lowest, range-highest}
+use Rattle.sheet_range.proofs.Causes.{accepts, accepted-means}
+use Rattle.sheet_range.proofs.Extremes.{by-lower, by-higher, in-digits}
+
+-- an accepted call
+
+module _ (words : List ℕ) (h : T (accepted (range-returned words))) where
+  S : RightSheet coefficient-format words
+  S = accepted-means words h
+
+  some : 1 < length words - 1
+  some = omega (arith, S .right-shape .count, some-blocks (S .right-shape))
+
+  lowest : Best 1 (has-lower words) (length words - 1) (lowest-word words 1 (length words - 1))
+  lowest = range-best (by-lower words) some
+
+  highest : Best 1 (has-higher words) (length words - 1) (highest-word words 1 (length words - 1))
+  highest = range-best (by-higher words) some
+
+  -- it answers 0 and place 0
+  pub returns-0 : range-returned words ≡ accept
+  returns-0 = accepts words S
+
+  -- both floats are those of words between the head and the end word
+
+  pub lowest-attained : (1 ≤ lowest-word words 1 (length words - 1)) × (suc (lowest-word words 1 (length words - 1)) < length words)
+      × (range-lowest words ≡ float-at words (lowest-word words 1 (length words - 1)))
+  unfolding range-lowest
+  lowest-attained = let l = lowest .below in (lowest .from, omega arith, causes.accepted-leaves (range-returned words) (lowest-float words) plus-zero h)
+
+  pub highest-attained : (1 ≤ highest-word words 1 (length words - 1)) × (suc (highest-word words 1 (length words - 1)) < length words)
+      × (range-highest words ≡ float-at words (highest-word words 1 (length words - 1)))
+  unfolding range-highest
+  highest-attained = let l = highest .below in (highest .from, omega arith, causes.accepted-leaves (range-returned words) (highest-float words) plus-zero h)
+
+  -- and the float of each lies between them
+  pub between : (i : ℕ) → 1 ≤ i → suc i < length words → T (le (range-lowest words) (float-at words i)) × T (le (float-at words i) (range-highest words))
+  between i l m =
+      let (a, b, low) = lowest-attained in
+      let (c, d, high) = highest-attained in
+      let z = value-at words i in
+      let here = in-digits S i l m in (
+        rw low (in-order-at-most 3 (value-at words (lowest-word words 1 (length words - 1))) z (lit≤ tt) (in-digits S _ a b) here (lowest .none-before i l (omega arith))),
+        rw high (in-order-at-most 3 z (value-at words (highest-word words 1 (length words - 1))) (lit≤ tt) here (in-digits S _ c d) (highest .none-before i l (omega arith))),
+      )
+
+  -- exactly
+  pub word-exact : (i : ℕ) → 1 ≤ i → suc i < length words → HasValue (float-at words i) (negative (value-at words i)) (natAbs (value-at words i)) 8
+  word-exact i l m = exact 3 (value-at words i) (lit≤ tt) (in-digits S i l m)
+
+-- a refused call gives no float but plus zero
+pub refused-gives : (words : List ℕ) → accepted (range-returned words) ≡ false → (range-lowest words ≡ plus-zero) × (range-highest words ≡ plus-zero)
+unfolding range-lowest range-highest
+refused-gives words h =
+    (causes.refused-leaves (range-returned words) (lowest-float words) plus-zero h, causes.refused-leaves (range-returned words) (highest-float words) plus-zero h)
+
+-- the words that an accepted call of sheet wrote, in a list of their own: they are a coefficient sheet, and accepted
+
+module _ (words : List ℕ) (b : ℕ) (scratch : List ℤ) (output : List ℕ) (a : T (accepted (sheet-returned words b (length scratch) (length output))))
+    (written : List ℕ) (size : length written ≡ length words)
+    (same : (i : ℕ) → i < length words → word-at written i ≡ word-at (sheet-output words b scratch output) i) where
+  checked : Checked words b (length scratch) (length output)
+  checked = accepted-checked words b (length scratch) (length output) a
+
+  shape : RightShape sample-format words
+  shape = checked .right .right-shape
+
+  head : (kind (word-at written 0) ≡ coefficient-head-kind) × (across (word-at written 0) ≡ across (word-at words 0)) × (down (word-at written 0) ≡ down (word-at words 0))
+  head = rw (same 0 (shape .some-words)) (sheets.head-left words b scratch output a)
+
+  same-blocks : blocks written ≡ blocks words
+  same-blocks = ap₂ _*_ (head .1) (head .2)
+
+  -- the coefficient of a word, by its block k and its place p
+  pub coefficient-written : (k p : ℕ) → k < blocks words → p < places
+      → (kind (word-at written (1 + places * k + p)) ≡ coefficient-kind) × (value-at written (1 + places * k + p) ≡ getD (block-coefficients b words k) p (pos 0))
+  coefficient-written k p h l =
+      rw (same (1 + places * k + p) (let r = block-words checked k h in omega arith)) (sheets.coefficient-left words b scratch output a k p h l)
+
+  within-limit : (k p : ℕ) → k < blocks words → p < places → natAbs (getD (block-coefficients b words k) p (pos 0)) ≤ coefficient-limit
+  unfolding block-coefficients
+  within-limit k p h l = le-trans (coefficient-size b (block-set 1 (block words k) (block-range checked k h)) (checked .at-width) p l) (lit≤ tt)
+
+  body : (i : ℕ) → 0 < i → suc i < length written → (kind (word-at written i) ≡ coefficient-kind) × (outside coefficient-format (value-at written i) ≡ false)
+  body i h l =
+      let k = (i - 1) / places in
+      let p = (i - 1) % places in
+      let below : p < places = mod-lt (i - 1) (lit< tt) in
+      let here : 1 + places * k + p ≡ i = omega (arith, div-add-mod (i - 1) places) in
+      let room : k < blocks words = omega (arith, here, size, shape .count) in
+      let (of-kind, holds) = coefficient-written k p room below in
+      let z = value-at written i in
+      let v : z ≡ getD (block-coefficients b words k) p (pos 0) = ap (value-at written) (sym here) ∙ holds in (
+        ap (λ i. kind (word-at written i)) (sym here) ∙ of-kind,
+        outside-limit (coefficient-limit - 1) z ∙ le-ltb coefficient-limit (natAbs z) (rw v (within-limit k p room below)),
+      )
+
+  end : word-at written (length written - 1) ≡ word-at words (length words - 1)
+  end =
+      ap (λ n. word-at written (n - 1)) size ∙ same (length words - 1) (let h = shape .some-words in omega arith) ∙ sheets.end-left words b scratch output a
+
+  pub written-right : RightSheet coefficient-format written
+  written-right = record {
+    right-shape = record {
+      some-words = rw size (shape .some-words);
+      head-kind = head .0;
+      some-across = rw (head .1) (shape .some-across);
+      some-down = rw (head .2) (shape .some-down);
+      few-blocks = rw same-blocks (shape .few-blocks);
+      count = size ∙ shape .count ∙ ap size-of (sym same-blocks);
+    };
+    body-kind = λ i h l. body i h l .0;
+    body-range = λ i h l. body i h l .1;
+    end-kind = ap kind end ∙ checked .right .end-kind;
+    end-count = ap payload end ∙ checked .right .end-count ∙ sym same-blocks;
+  }
+
+  pub written-accepted : range-returned written ≡ accept
+  written-accepted = accepts written written-right

@@ -1,0 +1,57 @@
+-- What `sheet_range` returns (02, request 4), for any words.
+use mathlib.Core.Bool.{Bool, cond}
+use mathlib.Core.List.{List}
+use Prim.Native.Nat.{ℕ, _-_}
+use lib.Ieee.{Float}
+use lib.IntN.{ℤ}
+use lib.ListN.{length}
+use lib.Signed.{ltZ}
+use Rattle.integers.specs.Search.{foremost}
+use Rattle.answers.specs.Answer.{Returned, answered, accept, accepted}
+use Rattle.words.specs.Word.{payload, value}
+use Rattle.floats.specs.Fraction.{coefficient-float, plus-zero}
+use Rattle.sheet_checks.specs.Check.{coefficient-format, check-causes, word-at}
+
+-- "A coefficient sheet is checked as 01 checks a sample sheet"
+unfoldable pub range-returned : List ℕ → Returned
+range-returned words = answered (check-causes coefficient-format words) accept
+
+-- the coefficient of word i, and its float
+
+abbrev pub value-at : List ℕ → ℕ → ℤ
+value-at words i = value (payload (word-at words i))
+
+abbrev pub float-at : List ℕ → ℕ → Float
+float-at words i = coefficient-float (value-at words i)
+
+-- word j has a lower value than word i, and a higher one
+
+abbrev pub has-lower : List ℕ → ℕ → ℕ → Bool
+has-lower words j i = ltZ (value-at words j) (value-at words i)
+
+abbrev pub has-higher : List ℕ → ℕ → ℕ → Bool
+has-higher words j i = ltZ (value-at words i) (value-at words j)
+
+-- of the words from index a on and before index b, the first that none has a lower value than, and the first that none has a higher value than
+
+abbrev pub lowest-word : List ℕ → ℕ → ℕ → ℕ
+lowest-word words a b = foremost a b (has-lower words)
+
+abbrev pub highest-word : List ℕ → ℕ → ℕ → ℕ
+highest-word words a b = foremost a b (has-higher words)
+
+-- "the lowest and highest float", over the words between the head and the end word
+
+abbrev pub lowest-float : List ℕ → Float
+lowest-float words = float-at words (lowest-word words 1 (length words - 1))
+
+abbrev pub highest-float : List ℕ → Float
+highest-float words = float-at words (highest-word words 1 (length words - 1))
+
+-- and of a refused call "plus zero"
+
+unfoldable pub range-lowest : List ℕ → Float
+range-lowest words = cond (accepted (range-returned words)) (lowest-float words) plus-zero
+
+unfoldable pub range-highest : List ℕ → Float
+range-highest words = cond (accepted (range-returned words)) (highest-float words) plus-zero
