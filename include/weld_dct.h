@@ -1,8 +1,8 @@
 /* The exact 8 by 8 cosine transform for weld radiographs, for C and C++.
  *
  * Every function takes any numbers and buffers of any length. It either does the whole of its work and answers 0, or it answers the number
- * of one refusal with its place, and then every buffer is as it was, and any float in the answer is plus zero. That each function does what
- * is said here is proved of its source; docs/CLAIMS.md says where, and docs/TRUST.md what remains to be believed.
+ * of one refusal with its place, and then every buffer is as it was, any sum in the answer 0, and any float plus zero. That each function
+ * does what is said here is proved of its source; docs/CLAIMS.md says where, and docs/TRUST.md what remains to be believed.
  *
  * A buffer is a pointer and the count of its numbers. What the caller must see to, because no function can look at it: a pointer is valid
  * for its count of numbers, aligned, and not null, even where the count is 0; a buffer that is written overlaps no other buffer of the call.
@@ -87,6 +87,16 @@ struct weld_dct_summary_answer {
     uint32_t textured;
     float mean;
     float largest;
+};
+
+/* What sheet answers: the sum of all samples, and the sum of the first coefficients in eighths of all blocks. The two are equal on every
+ * accepted sheet, and 0 beside a refusal. Earlier versions of sheet answered a struct weld_dct_answer, which has the first two fields alone: a
+ * caller has to name this struct in its place, and to be compiled anew. */
+struct weld_dct_sheet_answer {
+    uint32_t number;
+    size_t place;
+    int64_t sample_sum;
+    int64_t first_sum;
 };
 
 /* What sheet_range answers: the lowest and the highest float. */
@@ -184,11 +194,12 @@ struct weld_dct_summary_answer weld_dct_summary(const int32_t *coefficients, siz
  * output: room for n words or more. Written are n: a head of kind 4 with the same sizes, for each block 64 words of kind 3, each a
  * coefficient in 28-bit two's complement as round gives it at b, and the same end word. Words beyond them stay as they were. A sheet with
  * all samples negated, where these are in range, gives all coefficients negated. scratch: 512 numbers; afterwards the elements of the last
- * block. An accepted call answers 0 and n.
+ * block. An accepted call answers 0 and n, and both sums.
  * Refuses, in this order: WELD_DCT_REFUSED_WIDTH; WELD_DCT_REFUSED_HEAD; WELD_DCT_REFUSED_WORDS for the count; WELD_DCT_REFUSED_LENGTHS,
  * k not 512 or m below n; then the first faulty word: WELD_DCT_REFUSED_WORDS for its kind, and otherwise WELD_DCT_REFUSED_SAMPLE or
  * WELD_DCT_REFUSED_END for what it holds. */
-struct weld_dct_answer weld_dct_sheet(const uint32_t *words, size_t n, uint32_t b, int32_t *scratch, size_t k, uint32_t *output, size_t m);
+struct weld_dct_sheet_answer weld_dct_sheet(const uint32_t *words, size_t n, uint32_t b, int32_t *scratch, size_t k, uint32_t *output,
+                                            size_t m);
 
 /* Sheet range: the lowest and the highest float of a coefficient sheet.
  *

@@ -412,9 +412,10 @@ static Answer judge_sheet(const uint32_t *words, size_t n, uint32_t b, size_t k,
     return judge_words(&sample_format, words, n);
 }
 
-Answer second_sheet(const uint32_t *words, size_t n, uint32_t b, int32_t *scratch, size_t k, uint32_t *output, size_t m) {
-    Answer answer = judge_sheet(words, n, b, k, m);
-    if (answer.number != ACCEPTED) return answer;
+/* The sums are those of the words read and of the words written. */
+SheetAnswer second_sheet(const uint32_t *words, size_t n, uint32_t b, int32_t *scratch, size_t k, uint32_t *output, size_t m) {
+    SheetAnswer made = {judge_sheet(words, n, b, k, m), 0, 0};
+    if (made.answer.number != ACCEPTED) return made;
     output[0] = make_head(COEFFICIENT_HEAD, across(words[0]), down(words[0]));
     for (size_t first = 1; first < n - 1; first += BLOCK) {
         int32_t samples[BLOCK];
@@ -423,7 +424,9 @@ Answer second_sheet(const uint32_t *words, size_t n, uint32_t b, int32_t *scratc
         for (size_t p = 0; p < BLOCK; p++) output[first + p] = make_word(COEFFICIENT, coefficient(scratch + 8 * p, b));
     }
     output[n - 1] = words[n - 1];
-    return answer;
+    for (size_t i = 1; i < n - 1; i++) made.sample_sum += payload_value(words[i]);
+    for (size_t i = 1; i < n - 1; i += BLOCK) made.first_sum += payload_value(output[i]);
+    return made;
 }
 
 Range second_sheet_range(const uint32_t *words, size_t n) {

@@ -23,6 +23,7 @@ enum { ACCEPTED, BAD_LENGTH, BAD_SAMPLE, BAD_WIDTH, BAD_MAGNITUDES, NO_BLOCK, BA
 
 typedef struct { uint32_t number; size_t place; } Answer;
 typedef struct { Answer answer; uint32_t textured, mean, largest; } Summary;
+typedef struct { Answer answer; int64_t sample_sum, first_sum; } SheetAnswer; /* sums of samples, and of first coefficients in eighths */
 typedef struct { Answer answer; uint32_t lowest, highest; } Range;
 
 /* Makes the tables; comes before all else. False if a table number, which is rounded from the cosine itself, breaks 01's rule of fractions, or if an
@@ -38,7 +39,7 @@ Answer second_quantize(const int32_t *coefficients, size_t n, const uint32_t *st
 Answer second_dequantize(const int32_t *quantized, size_t n, const uint32_t *steps, size_t k, int32_t *coefficients, size_t m);
 Answer second_to_floats(const int32_t *coefficients, size_t n, uint32_t *floats, size_t m);
 Summary second_summary(const int32_t *coefficients, size_t n);
-Answer second_sheet(const uint32_t *words, size_t n, uint32_t b, int32_t *scratch, size_t k, uint32_t *output, size_t m);
+SheetAnswer second_sheet(const uint32_t *words, size_t n, uint32_t b, int32_t *scratch, size_t k, uint32_t *output, size_t m);
 Range second_sheet_range(const uint32_t *words, size_t n);
 
 /* T.81: its factor of sample q = 8i+j in the DCT value at p = 8u+v, and the DCT value itself. */

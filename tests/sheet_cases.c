@@ -1,4 +1,5 @@
 #include "sheet_cases.h"
+#include <stdlib.h>
 
 static const Job *job;
 static const uint32_t some_counts[] = {1, 2, 3, 128}; /* of blocks */
@@ -23,6 +24,19 @@ void make_sheet_of(const Format *format, Sheet *sheet, uint32_t a, uint32_t d, e
 }
 
 void make_sheet(Sheet *sheet, uint32_t a, uint32_t d, enum pattern pattern) { make_sheet_of(&sample_format, sheet, a, d, pattern); }
+
+void make_with_sum(Sheet *sheet, uint32_t blocks, int32_t sum, int mixed) {
+    int32_t samples[MOST_BLOCKS * BLOCK], count = (int32_t)(BLOCK * blocks);
+    for (int32_t n = 0; n < count; n++) samples[n] = (sum < 0 ? -1 : 1) * ((abs(sum) + n) / count);
+    for (int32_t n = 0; n < count && mixed; n++) {
+        int32_t *from = samples + n, *to = samples + any(0, count - 1);
+        int32_t most = *from - LOWEST, room = HIGHEST - *to, amount = any(0, most < room ? most : room);
+        *from -= amount;
+        *to += amount;
+    }
+    make_sheet(sheet, 1, blocks, ANY);
+    for (int32_t n = 0; n < count; n++) sheet->words[1 + n] = make_word(SAMPLE, samples[n]);
+}
 
 void set_count(Sheet *sheet, size_t count) {
     for (; sheet->count < count; sheet->count++) sheet->words[sheet->count] = make_word(sheet->format->body, 1);

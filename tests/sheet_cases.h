@@ -1,4 +1,4 @@
-/* Sheets of words for the tests, and the cases that the library's jobs and the program all have to pass. */
+/* Sheets of words for the tests, and the cases that the library's jobs and the programs all have to pass. */
 #ifndef SHEET_CASES_H
 #define SHEET_CASES_H
 
@@ -13,6 +13,10 @@ void make_sheet_of(const Format *format, Sheet *sheet, uint32_t a, uint32_t d, e
 
 /* Two blocks, each the negative of the other, whose N at (0,1) is a half at the width b. Blocks at random hardly ever have one at 20 and 26. */
 void make_halves(Sheet *sheet, uint32_t b);
+
+/* A column of blocks whose samples sum to this, which so many can have. They are as equal as they can be, so that the lowest sum is that of the
+ * lowest sample alone; or, mixed, an amount at random has gone from each to one at random, as far as both stay in range. */
+void make_with_sum(Sheet *sheet, uint32_t blocks, int32_t sum, int mixed);
 
 /* Cuts the sheet, or makes it longer by words as its body has them. */
 void set_count(Sheet *sheet, size_t count);

@@ -1,5 +1,5 @@
-/* Holds the library's sheet job to the second program, call by call: the answer, and the words, the scratch and the output with the guard numbers
- * about them. */
+/* Holds the library's sheet job to the second program, call by call: the answer, both sums, and the words, the scratch and the output with the guard
+ * numbers about them. */
 #include "weld_dct.h"
 #include "sheet_cases.h"
 #include <stdio.h>
@@ -9,24 +9,36 @@ static Pair words, scratch, output; /* the buffers of the last call */
 static int answered[ANSWERS];
 static uint32_t width; /* at which the cases of sheet_cases.h are run */
 
+static void expect_sum(const char *of, int64_t wanted, int64_t sum) {
+    expect(sum == wanted, "sheet gives %lld as the sum of %s, expected is %lld", (long long)sum, of, (long long)wanted);
+}
+
+static void expect_sheet_answer(SheetAnswer wanted, struct weld_dct_sheet_answer answer) {
+    expect_answer("sheet", wanted.answer, answer.number, answer.place);
+    expect_sum("samples", wanted.sample_sum, answer.sample_sum);
+    expect_sum("first coefficients", wanted.first_sum, answer.first_sum);
+}
+
 /* the call with n words, of which the sheet's are the first, a scratch of k numbers and an output of m */
-static Answer check_lengths(const Sheet *sheet, size_t n, uint32_t b, size_t k, size_t m) {
+static SheetAnswer check_lengths(const Sheet *sheet, size_t n, uint32_t b, size_t k, size_t m) {
     fill(&words, "words", sheet->words, sheet->count, n);
     fill(&scratch, "scratch", NULL, 0, k);
     fill(&output, "output", NULL, 0, m);
-    Answer wanted = second_sheet((uint32_t *)words.second + GUARD, n, b, scratch.second + GUARD, k, (uint32_t *)output.second + GUARD, m);
-    struct weld_dct_answer answer =
-        weld_dct_sheet((uint32_t *)words.library + GUARD, n, b, scratch.library + GUARD, k, (uint32_t *)output.library + GUARD, m);
-    expect_answer("sheet", wanted, answer.number, answer.place);
+    SheetAnswer wanted = second_sheet((uint32_t *)words.second + GUARD, n, b, scratch.second + GUARD, k, (uint32_t *)output.second + GUARD, m);
+    expect_sheet_answer(wanted,
+        weld_dct_sheet((uint32_t *)words.library + GUARD, n, b, scratch.library + GUARD, k, (uint32_t *)output.library + GUARD, m));
+    expect(wanted.sample_sum == wanted.first_sum, "the two sums of the second program differ");
     compare(&words, "sheet");
     compare(&scratch, "sheet");
     compare(&output, "sheet");
-    answered[wanted.number]++;
+    answered[wanted.answer.number]++;
     return wanted;
 }
 
 /* output as long as the sheet, or longer */
-static Answer check_sheet(const Sheet *sheet) { return check_lengths(sheet, sheet->count, width, SET, sheet->count + (size_t)any(0, 3) * 21); }
+static Answer check_sheet(const Sheet *sheet) {
+    return check_lengths(sheet, sheet->count, width, SET, sheet->count + (size_t)any(0, 3) * 21).answer;
+}
 
 /* Each cause with each, and the causes in their order: b, the head, the count, the lengths of scratch and output, a faulty word. */
 
@@ -72,7 +84,7 @@ static void no_widths(void) {
         uint32_t b = no_width(n / HEADS / FAULTS);
         make_faulty(&sheet, 2, n % HEADS, n / HEADS % FAULTS);
         begin("b = %u, head %d, fault %d", (unsigned)b, n % HEADS, n / HEADS % FAULTS);
-        expect(check_lengths(&sheet, sheet.count, b, SET, sheet.count).number == BAD_WIDTH, "the second program has another answer");
+        expect(check_lengths(&sheet, sheet.count, b, SET, sheet.count).answer.number == BAD_WIDTH, "the second program has another answer");
     }
 }
 
@@ -85,17 +97,14 @@ static void lengths_above_32_bits(void) {
     size_t many = ABOVE_32_BITS + 66;
     begin("a length above 32 bits");
     make_sheet(&sheet, 1, 1, ANY);
-    second_sheet(sheet.words, 66, 26, elements, SET, wanted, 66);
-    struct weld_dct_answer long_scratch = weld_dct_sheet(sheet.words, 66, 26, huge, ABOVE_32_BITS + SET, output, 66);
-    expect_answer("sheet", (Answer){BAD_LENGTH, 0}, long_scratch.number, long_scratch.place);
+    SheetAnswer made = second_sheet(sheet.words, 66, 26, elements, SET, wanted, 66), accepted = {{ACCEPTED, 66}, made.sample_sum, made.first_sum};
+    expect_sheet_answer((SheetAnswer){{BAD_LENGTH, 0}, 0, 0}, weld_dct_sheet(sheet.words, 66, 26, huge, ABOVE_32_BITS + SET, output, 66));
     expect(memcmp(output, zeros, sizeof output) == 0 && memcmp(huge, zeros, sizeof zeros) == 0, "a refused call writes into a buffer");
-    struct weld_dct_answer long_output = weld_dct_sheet(sheet.words, 66, 26, scratch, SET, (uint32_t *)huge, ABOVE_32_BITS);
-    expect_answer("sheet", (Answer){ACCEPTED, 66}, long_output.number, long_output.place);
+    expect_sheet_answer(accepted, weld_dct_sheet(sheet.words, 66, 26, scratch, SET, (uint32_t *)huge, ABOVE_32_BITS));
     expect(memcmp(huge, wanted, sizeof wanted) == 0 && memcmp(huge + 66, zeros, sizeof zeros) == 0, "the output is another");
     expect(memcmp(scratch, elements, sizeof elements) == 0, "the scratch is another");
     memcpy(huge, sheet.words, 66 * sizeof sheet.words[0]);
-    struct weld_dct_answer long_sheet = weld_dct_sheet((uint32_t *)huge, many, 26, scratch, SET, output, 66);
-    expect_answer("sheet", (Answer){BAD_WORDS, many}, long_sheet.number, long_sheet.place);
+    expect_sheet_answer((SheetAnswer){{BAD_WORDS, many}, 0, 0}, weld_dct_sheet((uint32_t *)huge, many, 26, scratch, SET, output, 66));
     expect(memcmp(output, zeros, sizeof output) == 0 && memcmp(scratch, elements, sizeof elements) == 0, "a refused call writes into a buffer");
 }
 
@@ -111,15 +120,17 @@ static void random_sheets(void) {
     }
 }
 
-/* the sheet with all samples negated, all in range: its coefficients are negated, and all else is the same */
+/* the sheet with all samples negated, all in range: its coefficients and sums are negated, and all else is the same */
 static void check_negative(const Sheet *sheet, uint32_t b) {
     static uint32_t positive[ROOM];
     Sheet negative = *sheet;
     size_t end = sheet->count - 1;
     for (size_t i = 1; i < end; i++) negative.words[i] = make_word(SAMPLE, -payload_value(sheet->words[i]));
-    expect(check_lengths(sheet, sheet->count, b, SET, sheet->count).number == ACCEPTED, "the sheet is refused");
+    SheetAnswer one = check_lengths(sheet, sheet->count, b, SET, sheet->count);
     memcpy(positive, output.library + GUARD, sheet->count * sizeof positive[0]);
-    expect(check_lengths(&negative, sheet->count, b, SET, sheet->count).number == ACCEPTED, "its negative is refused");
+    SheetAnswer other = check_lengths(&negative, sheet->count, b, SET, sheet->count);
+    expect(one.answer.number == ACCEPTED && other.answer.number == ACCEPTED, "the sheet is refused, or its negative");
+    expect(one.sample_sum == -other.sample_sum && one.first_sum == -other.first_sum, "the sums are not negated");
     for (size_t i = 0; i <= end; i++) {
         uint32_t w = i == 0 || i == end ? positive[i] : make_word(COEFFICIENT, -payload_value(positive[i])), came = (uint32_t)output.library[GUARD + i];
         expect(came == w, "the word at index %zu is %08X, expected is %08X", i, (unsigned)came, (unsigned)w);
@@ -143,6 +154,22 @@ static void negatives(void) {
     }
 }
 
+/* Sums that are known beforehand, to which the second program is held, too: that of 01's sheet of ones, 0, the lowest and the highest of one block
+ * and of the most, and others. Samples are as equal as they can be, or mixed. */
+static void known_sums(void) {
+    static const struct { uint32_t blocks; int32_t sum; } cases[] = {{1, 64}, {1, 0}, {MOST_BLOCKS, 0}, {1, -131072}, {1, 131008},
+        {MOST_BLOCKS, -16777216}, {MOST_BLOCKS, 16769024}, {1, -1}, {1, 1}, {2, -1}, {2, 1}, {3, -1000}, {3, 1000}, {127, -9999999}, {127, 9999999}};
+    Sheet sheet;
+    for (int n = 0; n < (int)COUNT(cases) * WIDTHS * 2; n++) {
+        uint32_t blocks = cases[n / WIDTHS / 2].blocks, b = widths[n / 2 % WIDTHS];
+        int32_t sum = cases[n / WIDTHS / 2].sum, mixed = n % 2;
+        begin("%u blocks of samples that sum to %d, mixed %d, b = %u", (unsigned)blocks, (int)sum, (int)mixed, (unsigned)b);
+        make_with_sum(&sheet, blocks, sum, mixed);
+        SheetAnswer wanted = check_lengths(&sheet, sheet.count, b, SET, sheet.count);
+        expect(wanted.answer.number == ACCEPTED && wanted.sample_sum == sum && wanted.first_sum == sum, "the second program has other sums");
+    }
+}
+
 int main(void) {
     int calls = 0;
     start("sheet_job");
@@ -155,13 +182,15 @@ int main(void) {
     lengths_above_32_bits();
     random_sheets();
     negatives();
+    known_sums();
     begin("end");
     for (int n = 0; n < ANSWERS; n++) {
         int possible = n <= BAD_END && n != BAD_MAGNITUDES && n != NO_BLOCK;
         expect((answered[n] > 0) == possible, "the answer %d came %d times", n, answered[n]);
         calls += answered[n];
     }
-    printf("sheet_job: %d calls as 01 has them, %d accepted, %d refused for cause 1, %d for 2, %d for 3, %d for 6, %d for 7, %d for 8; seed %llu\n",
+    printf("sheet_job: %d calls as 01 and 02 have them, %d accepted, "
+           "%d refused for cause 1, %d for 2, %d for 3, %d for 6, %d for 7, %d for 8; seed %llu\n",
            calls, answered[ACCEPTED], answered[BAD_LENGTH], answered[BAD_SAMPLE], answered[BAD_WIDTH], answered[BAD_HEAD], answered[BAD_WORDS],
            answered[BAD_END], (unsigned long long)seed);
     return 0;

@@ -1,7 +1,8 @@
-/* Runs the program that converts sheets, and holds every byte that it writes to the second program:
- * - for an accepted sheet, the coefficient sheet; and each coefficient to eight times T.81's DCT value (ITU-T T.81, A.3.3) in long double;
+/* Runs a program on sheets, and holds every byte that it writes to the second program:
+ * - for an accepted sheet, of transform_sheet the coefficient sheet, and each coefficient to eight times T.81's DCT value (ITU-T T.81, A.3.3) in long
+ *   double; of sum_sheet the line with both sums;
  * - for a refused one, the line with the number and the place.
- * Called with the path of the program and the paths of sheets that it has to accept. */
+ * Called with the path of the program, with which of the two it is, transform or sum, and with the paths of sheets that it has to accept. */
 #define _DEFAULT_SOURCE
 #include "sheet_cases.h"
 #include <errno.h>
@@ -9,6 +10,7 @@
 #include <poll.h>
 #include <sched.h>
 #include <signal.h>
+#include <stdarg.h>
 #include <stdio.h>
 #include <stdlib.h>
 #include <string.h>
@@ -26,6 +28,7 @@ typedef struct { size_t length; uint8_t bytes[ROOM_BYTES]; } Bytes;
 
 static const double most_ms = 50; /* a run on a largest sheet */
 static const char *program;
+static int sums; /* whether it writes sums, and not a coefficient sheet */
 static FILE *input_file;
 static Bytes came;            /* what the program wrote last */
 static int answered[ANSWERS]; /* runs, by the number of the answer */
@@ -46,17 +49,28 @@ static void to_bytes(const uint32_t *words, size_t count, Bytes *b) {
     for (size_t i = 0; i < count; i++) append(b, words[i]);
 }
 
-/* The program, as 01 defines it, over the second program's sheet. */
+/* Lines. */
+
+FORMAT(2, 3) static void to_line(Bytes *b, const char *format, ...) {
+    va_list rest;
+    va_start(rest, format);
+    b->length = (size_t)vsnprintf((char *)b->bytes, ROOM_BYTES, format, rest);
+    va_end(rest);
+}
+
+/* The programs, as 01 and 02 define them, over the second program's sheet. */
 
 static Answer second_output(const Bytes *input, Bytes *output) {
     static uint32_t words[ROOM], written[ROOM];
     int32_t scratch[SET];
     size_t length = input->length < LIMIT ? input->length : LIMIT, count = length / 4;
     for (size_t i = 0; i < count; i++) words[i] = word(input, i);
-    Answer answer = length % 4 != 0 ? (Answer){BAD_WORDS, count} : second_sheet(words, count, WIDTH, scratch, SET, written, ROOM);
-    if (answer.number == ACCEPTED) to_bytes(written, answer.place, output);
-    else output->length = (size_t)snprintf((char *)output->bytes, ROOM_BYTES, "refused %u at %zu\n", (unsigned)answer.number, answer.place);
-    return answer;
+    SheetAnswer made = {{BAD_WORDS, count}, 0, 0};
+    if (length % 4 == 0) made = second_sheet(words, count, WIDTH, scratch, SET, written, ROOM);
+    if (made.answer.number != ACCEPTED) to_line(output, "refused %u at %zu\n", (unsigned)made.answer.number, made.answer.place);
+    else if (sums) to_line(output, "SUM %lld %lld\n", (long long)made.sample_sum, (long long)made.first_sum);
+    else to_bytes(written, made.answer.place, output);
+    return made.answer;
 }
 
 /* Running the program. */
@@ -139,7 +153,8 @@ static void run(const Bytes *input, size_t piece) {
 static void print_bytes(const char *what, const Bytes *b, size_t from) {
     printf("  %s: %zu bytes, from byte %zu:", what, b->length, from);
     for (size_t n = from; n < b->length && n < from + 8; n++) printf(" %02X", b->bytes[n]);
-    if (b->length > 0 && b->bytes[0] == 'r') printf(" of \"%.*s\"", (int)strcspn((const char *)b->bytes, "\n"), (const char *)b->bytes);
+    if (b->length > 0 && (b->bytes[0] == 'r' || b->bytes[0] == 'S'))
+        printf(" of \"%.*s\"", (int)strcspn((const char *)b->bytes, "\n"), (const char *)b->bytes);
     printf("\n");
 }
 
@@ -148,8 +163,8 @@ static void compare_output(const Bytes *input, size_t piece, const Bytes *expect
     while (n < expected->length && n < came.length && expected->bytes[n] == came.bytes[n]) n++;
     if (n == expected->length && n == came.length) return;
     uint32_t head = input->length < 4 ? 0 : word(input, 0);
-    printf("  input: %zu bytes in pieces of %zu (0: a file), a head of kind %u, %u by %u blocks\n", input->length, piece, (unsigned)kind(head),
-           (unsigned)across(head), (unsigned)down(head));
+    printf("  %s on %zu bytes in pieces of %zu (0: a file), a head of kind %u, %u by %u blocks\n", program, input->length, piece,
+           (unsigned)kind(head), (unsigned)across(head), (unsigned)down(head));
     came.bytes[came.length] = 0;
     print_bytes("expected", expected, n);
     print_bytes("came", &came, n);
@@ -177,7 +192,7 @@ static Answer check(const Bytes *input, size_t piece) {
     Answer answer = second_output(input, &expected);
     run(input, piece);
     compare_output(input, piece, &expected);
-    if (answer.number == ACCEPTED) check_formula(input);
+    if (answer.number == ACCEPTED && !sums) check_formula(input);
     answered[answer.number]++;
     return answer;
 }
@@ -213,7 +228,7 @@ static void set_length(Bytes *input, size_t length) {
 
 /* Cases. */
 
-/* 01's worked examples of the program, byte for byte as they stand there */
+/* 01's worked examples of transform_sheet, and 02's of sum_sheet, byte for byte as they stand there */
 
 static void example_of_ones(size_t piece) {
     static Bytes input, wanted;
@@ -226,6 +241,7 @@ static void example_of_ones(size_t piece) {
     }
     append(&input, 0xF0000001);
     append(&wanted, 0xF0000001);
+    if (sums) to_line(&wanted, "SUM 64 64\n");
     begin("01's sheet of ones");
     check(&input, piece);
     compare_output(&input, piece, &wanted);
@@ -234,8 +250,7 @@ static void example_of_ones(size_t piece) {
 static void example_of_few_bytes(size_t length, size_t piece) {
     static Bytes few = {.bytes = {0x10, 0, 0x40}}, wanted;
     few.length = length;
-    strcpy((char *)wanted.bytes, length == 0 ? "refused 6 at 0\n" : "refused 7 at 0\n");
-    wanted.length = strlen((const char *)wanted.bytes);
+    to_line(&wanted, length == 0 ? "refused 6 at 0\n" : "refused 7 at 0\n");
     begin("%zu bytes", length);
     check(&few, piece);
     compare_output(&few, piece, &wanted);
@@ -321,6 +336,31 @@ static void independent_blocks(void) {
     }
 }
 
+/* Sums that are known beforehand, and the line of each, which has the digits that are written here: 0, the least and the greatest of each count of
+ * digits with both signs, and the lowest and the highest of all. Samples are as equal as they can be, or mixed. */
+
+#define WITH_LINE(sum) {sum, "SUM " #sum " " #sum "\n"}
+#define WITH_LINES(sum) WITH_LINE(sum), WITH_LINE(-sum)
+
+static void known_sums(void) {
+    static const struct { int32_t sum; const char *line; } cases[] = {WITH_LINE(0), WITH_LINES(1), WITH_LINES(9), WITH_LINES(10), WITH_LINES(99),
+        WITH_LINES(100), WITH_LINES(999), WITH_LINES(1000), WITH_LINES(9999), WITH_LINES(10000), WITH_LINES(99999), WITH_LINES(100000),
+        WITH_LINES(999999), WITH_LINES(1000000), WITH_LINES(9999999), WITH_LINES(10000000), WITH_LINE(-16777216), WITH_LINE(16769024)};
+    static const int32_t counts[] = {1, 2, MOST_BLOCKS};
+    static Bytes input, wanted;
+    Sheet sheet;
+    for (size_t n = 0; n < COUNT(cases) * COUNT(counts) * 2; n++) {
+        int32_t sum = cases[n / 2 / COUNT(counts)].sum, blocks = counts[n / 2 % COUNT(counts)], mixed = n % 2;
+        if (sum < BLOCK * blocks * LOWEST || sum > BLOCK * blocks * HIGHEST) continue;
+        begin("%d blocks of samples that sum to %d, mixed %d", (int)blocks, (int)sum, (int)mixed);
+        make_with_sum(&sheet, (uint32_t)blocks, sum, mixed);
+        to_bytes(sheet.words, sheet.count, &input);
+        to_line(&wanted, "%s", cases[n / 2 / COUNT(counts)].line);
+        check(&input, FROM_FILE);
+        compare_output(&input, FROM_FILE, &wanted);
+    }
+}
+
 static void random_sheets(void) {
     static const size_t pieces[] = {FROM_FILE, FROM_FILE, FROM_FILE, AT_ONCE, 61, 997};
     Sheet sheet;
@@ -355,23 +395,24 @@ static double now_ms(void) {
 
 /* the time of a run on a largest sheet, its start and end included: the best of 20, since others may be at work on the machine */
 static double best_ms(void) {
-    Bytes input;
+    Bytes input, wanted;
     double best = INFINITY;
     begin("time");
     make_input(&input, 8, 16);
+    expect(second_output(&input, &wanted).number == ACCEPTED, "a sheet is refused");
     for (int n = 0; n < 20; n++) {
         double begun = now_ms();
         run(&input, FROM_FILE);
         best = fmin(best, now_ms() - begun);
-        expect(came.length == input.length, "a sheet is refused");
+        compare_output(&input, FROM_FILE, &wanted);
     }
     return best;
 }
 
-/* prints how many runs there were; every answer that the program has must have come, and no other */
+/* prints how many runs there were; every answer that the programs have must have come, and no other */
 static void report(double ms) {
     int runs = 0;
-    printf("sheets: a run on 128 blocks takes %.2f ms, the best of 20\n", ms);
+    printf("sheets: a run of %s on 128 blocks takes %.2f ms, the best of 20\n", program, ms);
     expect(ms < most_ms, "that is too long");
     begin("end");
     for (int n = 0; n < ANSWERS; n++) {
@@ -379,25 +420,29 @@ static void report(double ms) {
         expect((answered[n] > 0) == possible, "the answer %d came %d times", n, answered[n]);
         runs += answered[n];
     }
-    printf("sheets: %d runs as 01 and T.81's formula have them, %d accepted, %d refused for cause 2, %d for 6, %d for 7, %d for 8; seed %llu\n", runs,
-           answered[ACCEPTED], answered[BAD_SAMPLE], answered[BAD_HEAD], answered[BAD_WORDS], answered[BAD_END], (unsigned long long)seed);
+    printf("sheets: %d runs of %s as %s have them, %d accepted, %d refused for cause 2, %d for 6, %d for 7, %d for 8; seed %llu\n", runs, program,
+           sums ? "01 and 02" : "01 and T.81's formula", answered[ACCEPTED], answered[BAD_SAMPLE], answered[BAD_HEAD], answered[BAD_WORDS],
+           answered[BAD_END], (unsigned long long)seed);
 }
 
 int main(int argc, char **argv) {
     start("sheets");
-    expect(argc >= 2, "called without the path of the program");
+    expect(argc >= 3, "called without the path of the program, and transform or sum");
     program = argv[1];
+    sums = strcmp(argv[2], "sum") == 0;
+    expect(sums || strcmp(argv[2], "transform") == 0, "%s is neither transform nor sum", argv[2]);
     signal(SIGPIPE, SIG_IGN);
     input_file = tmpfile();
     expect(input_file != NULL, "no file for the input");
     worked_examples();
-    for (int n = 2; n < argc; n++) read_example(argv[n]);
+    for (int n = 3; n < argc; n++) read_example(argv[n]);
     sheet_cases(&(Job){check_words, &sample_format, WIDTH, LIMIT / 4});
     every_length();
     long_inputs();
     in_pieces();
-    independent_blocks();
     random_sheets();
+    if (sums) known_sums();
+    else independent_blocks();
     report(best_ms());
     return 0;
 }

@@ -4,8 +4,8 @@ use crate::jobs::{ByNumber, BySteps, Jobs, Ways, DENSE, LIBRARY, PLAIN};
 use crate::{doubles, jpeg};
 use std::array::from_fn;
 use weld_dct::{
-    Range, Refusal, Summary, COEFFICIENT_LIMIT, COMPONENTS, DEQUANTIZED_LIMIT, HIGHEST_SAMPLE,
-    MAGNITUDES_LIMIT, ORIENTATIONS, PLACES, STEP_LIMIT, WIDTHS,
+    Range, Refusal, Summary, Transformed, COEFFICIENT_LIMIT, COMPONENTS, DEQUANTIZED_LIMIT,
+    HIGHEST_SAMPLE, MAGNITUDES_LIMIT, ORIENTATIONS, PLACES, STEP_LIMIT, WIDTHS,
 };
 
 type Outcome = Result<(), String>;
@@ -65,7 +65,11 @@ fn of_range(jobs: Jobs, words: &[u32]) -> Result<[u32; 2], Refusal> {
 }
 
 /// All that the sheet job returns and leaves.
-fn of_sheet(jobs: Jobs, words: &[u32], b: u32) -> (Result<usize, Refusal>, Elements, Vec<u32>) {
+fn of_sheet(
+    jobs: Jobs,
+    words: &[u32],
+    b: u32,
+) -> (Result<Transformed, Refusal>, Elements, Vec<u32>) {
     let (mut scratch, mut output) = ([0; COMPONENTS], vec![0; words.len()]);
     let returned = (jobs.sheet)(words, b, &mut scratch, &mut output);
     (returned, scratch, output)

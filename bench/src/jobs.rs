@@ -6,12 +6,12 @@ use crate::plain::ByClass;
 use crate::timing::Side;
 use crate::{exact, floats, orientations, quantization, rounding, sheets};
 use std::hint::black_box;
-use weld_dct::{Range, Refusal, Summary, COMPONENTS, ORIENTATIONS, PLACES, WIDTHS};
+use weld_dct::{Range, Refusal, Summary, Transformed, COMPONENTS, ORIENTATIONS, PLACES, WIDTHS};
 
 type OneWay = fn(&[i32], &mut [i32]) -> Result<(), Refusal>;
 type ToFloats = fn(&[i32], &mut [f32]) -> Result<(), Refusal>;
 type Summarize = fn(&[i32]) -> Result<Summary, Refusal>;
-type Sheet = fn(&[u32], u32, &mut [i32], &mut [u32]) -> Result<usize, Refusal>;
+type Sheet = fn(&[u32], u32, &mut [i32], &mut [u32]) -> Result<Transformed, Refusal>;
 type SheetRange = fn(&[u32]) -> Result<Range, Refusal>;
 
 /// Round at a width, or reorient by an orientation.

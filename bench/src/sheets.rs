@@ -6,7 +6,7 @@ use crate::inputs::{Elements, Samples};
 use crate::plain::ByClass;
 use crate::rounding::Width;
 use std::array::from_fn;
-use weld_dct::{sheet_words, Range, Refusal, BLOCKS_LIMIT, PLACES};
+use weld_dct::{sheet_words, Range, Refusal, Transformed, BLOCKS_LIMIT, PLACES};
 
 const PAYLOAD: u32 = (1 << 28) - 1;
 
@@ -95,13 +95,14 @@ fn check_words<F: Format>(words: &[u32], blocks: usize) -> Result<(), Refusal> {
     }
 }
 
-/// The coefficient sheet of a sample sheet at the width b, and the words written.
+/// The coefficient sheet of a sample sheet at the width b, the words written, and the sums of samples and of first
+/// coefficients. The samples of a block are summed in 32 bits, of which the compiler adds several at a time.
 pub fn sheet(
     words: &[u32],
     b: u32,
     scratch: &mut [i32],
     output: &mut [u32],
-) -> Result<usize, Refusal> {
+) -> Result<Transformed, Refusal> {
     let width = Width::of(b)?;
     let blocks = blocks_of::<SampleSheet>(words)?;
     let size = words.len();
@@ -109,6 +110,7 @@ pub fn sheet(
     let output = output.get_mut(..size).ok_or(Refusal::Lengths)?;
     check_words::<SampleSheet>(words, blocks)?;
     let (body, made) = (&words[1..size - 1], &mut output[1..size - 1]);
+    let (mut sample_sum, mut first_sum) = (0, 0);
     for (block, stored) in body.chunks_exact(PLACES).zip(made.chunks_exact_mut(PLACES)) {
         let samples: Samples = from_fn(|n| value(block[n]));
         ByClass::transform(&samples, scratch);
@@ -117,10 +119,16 @@ pub fn sheet(
         for (word, y) in stored.iter_mut().zip(coefficients) {
             *word = 3 << 28 | y as u32 & PAYLOAD;
         }
+        sample_sum += i64::from(samples.iter().sum::<i32>());
+        first_sum += i64::from(coefficients[0]);
     }
     output[0] = 4 << 28 | words[0] & PAYLOAD;
     output[size - 1] = words[size - 1];
-    Ok(size)
+    Ok(Transformed {
+        words: size,
+        sample_sum,
+        first_sum,
+    })
 }
 
 /// The lowest and the highest float of a coefficient sheet. Floats are in the order of their coefficients, so that only

@@ -139,7 +139,7 @@ impl Refusal {
     }
 }
 
-/// The line that the program `transform_sheet` prints, without its newline.
+/// The line that the programs `transform_sheet` and `sum_sheet` print, without its newline.
 ///
 /// ```
 /// assert_eq!(weld_dct::Refusal::Sample(9).to_string(), "refused 2 at 9");
@@ -170,6 +170,17 @@ pub enum Summary {
     },
 }
 
+/// What [`sheet`] returns of a sheet that it accepts. The two sums are equal on every such sheet.
+#[derive(Debug, Clone, Copy, PartialEq, Eq)]
+pub struct Transformed {
+    /// The words written.
+    pub words: usize,
+    /// The sum of all samples.
+    pub sample_sum: i64,
+    /// The sum of the first coefficient in eighths of each block.
+    pub first_sum: i64,
+}
+
 /// The lowest and the highest float of a coefficient sheet.
 #[derive(Debug, Clone, Copy, PartialEq)]
 pub struct Range {
@@ -193,6 +204,14 @@ struct SummaryAnswer {
     textured: u32,
     mean: f32,
     largest: f32,
+}
+
+/// What that of [`sheet`] returns.
+#[repr(C)]
+struct SheetAnswer {
+    answer: Answer,
+    sample_sum: i64,
+    first_sum: i64,
 }
 
 /// What that of [`sheet_range`] returns.
@@ -248,7 +267,7 @@ extern "C" {
         k: usize,
         output: *mut u32,
         m: usize,
-    ) -> Answer;
+    ) -> SheetAnswer;
     fn weld_dct_sheet_range(words: *const u32, n: usize) -> RangeAnswer;
 }
 
@@ -282,6 +301,18 @@ impl SummaryAnswer {
         Ok(match self.textured {
             0 => Summary::Flat { mean },
             _ => Summary::Textured { mean, largest },
+        })
+    }
+}
+
+impl SheetAnswer {
+    /// The words written and both sums, or the refusal.
+    fn outcome(self) -> Result<Transformed, Refusal> {
+        let words = self.answer.outcome()?;
+        Ok(Transformed {
+            words,
+            sample_sum: self.sample_sum,
+            first_sum: self.first_sum,
         })
     }
 }
@@ -593,7 +624,8 @@ pub fn summary(coefficients: &[i32]) -> Result<Summary, Refusal> {
     unsafe { weld_dct_summary(coefficients.as_ptr(), coefficients.len()) }.outcome()
 }
 
-/// Makes a sheet of coefficient words of a sheet of sample words, at the width b, and returns the words written.
+/// Makes a sheet of coefficient words of a sheet of sample words, at the width b, and returns the words written and two
+/// sums.
 ///
 /// A word has its kind in its top four bits and a payload in the other 28. `words` is a head of kind 1, blocks across
 /// in bits 27 to 14 and blocks down in bits 13 to 0; for each block, left to right and then down, 64 words of kind 2,
@@ -603,7 +635,8 @@ pub fn summary(coefficients: &[i32]) -> Result<Summary, Refusal> {
 /// As many words are written to `output`: a head of kind 4 with the same sizes, for each block 64 words of kind 3, each
 /// a coefficient in 28-bit two's complement as [`round`] gives it at b, and the same end word. Words beyond them stay as
 /// they were. A sheet with all samples negated, where these are in range, gives all coefficients negated. `scratch` has
-/// the elements of the last block afterwards.
+/// the elements of the last block afterwards. The sum of all samples, and that of the first coefficient in eighths of
+/// each block, are returned in [`Transformed`]; they are equal on every accepted sheet.
 ///
 /// # Errors
 ///
@@ -616,13 +649,14 @@ pub fn summary(coefficients: &[i32]) -> Result<Summary, Refusal> {
 ///   [`Refusal::End`] for what it holds.
 ///
 /// ```
-/// use weld_dct::{sheet, sheet_words, Refusal, COMPONENTS};
+/// use weld_dct::{sheet, sheet_words, Refusal, Transformed, COMPONENTS};
 ///
 /// let mut words = [0x2000_0001; sheet_words(1)];
 /// (words[0], words[65]) = (0x1000_4001, 0xF000_0001);
 /// let mut scratch = [0; COMPONENTS];
 /// let mut output = [0; sheet_words(1)];
-/// assert_eq!(sheet(&words, 26, &mut scratch, &mut output), Ok(66));
+/// let made = Transformed { words: 66, sample_sum: 64, first_sum: 64 };
+/// assert_eq!(sheet(&words, 26, &mut scratch, &mut output), Ok(made));
 /// assert_eq!(output[..3], [0x4000_4001, 0x3000_0040, 0x3000_0000]);
 ///
 /// words[65] = 0xF000_0002;
@@ -633,7 +667,7 @@ pub fn sheet(
     b: u32,
     scratch: &mut [i32],
     output: &mut [u32],
-) -> Result<usize, Refusal> {
+) -> Result<Transformed, Refusal> {
     let (n, k, m) = (words.len(), scratch.len(), output.len());
     let (scratch, output) = (scratch.as_mut_ptr(), output.as_mut_ptr());
     // SAFETY: the pointers are those of slices, with their lengths, and a slice borrowed mutably overlaps no other.

@@ -21,6 +21,11 @@ fn one_block() -> Vec<u32> {
     zeros(SAMPLE_HEAD, SAMPLE)
 }
 
+/// A word of a sample.
+fn sample_word(x: i32) -> u32 {
+    SAMPLE | x as u32 & 0x0FFF_FFFF
+}
+
 /// A word of a coefficient.
 fn coefficient_word(y: i32) -> u32 {
     COEFFICIENT | y as u32 & 0x0FFF_FFFF
@@ -277,28 +282,63 @@ fn sheet_names_the_first_faulty_word() {
     sheet_refuses(&words, 11, (512, 66), (Refusal::Words(40), 7, 40));
 }
 
+/// What sheet returns of so many words, with samples of this sum.
+fn transformed(words: usize, sum: i64) -> Result<Transformed, Refusal> {
+    Ok(Transformed {
+        words,
+        sample_sum: sum,
+        first_sum: sum,
+    })
+}
+
 #[test]
 fn accepted_calls_write_what_they_promise_and_no_more() {
     let mut samples: Vec<i32> = (0..64).map(|n| n * 61 - 1900).collect();
     (samples[0], samples[63]) = (LOWEST_SAMPLE, HIGHEST_SAMPLE);
     let mut words = one_block();
     for (word, sample) in words[1..].iter_mut().zip(&samples) {
-        *word = SAMPLE | *sample as u32 & 0x0FFF_FFFF;
+        *word = sample_word(*sample);
     }
     let (mut elements, mut again) = ([0; COMPONENTS], [0; PLACES]);
     assert_eq!(forward(&samples, &mut elements), Ok(()));
     assert_eq!(back(&elements, &mut again), Ok(()));
     assert_eq!(samples, again);
+    let accepted = transformed(66, samples.into_iter().map(i64::from).sum());
     for b in WIDTHS {
         let (mut coefficients, mut scratch, mut output) = ([0; PLACES], [0; COMPONENTS], [7; 68]);
         assert_eq!(round(&elements, b, &mut coefficients), Ok(()));
-        assert_eq!(sheet(&words, b, &mut scratch, &mut output), Ok(66));
+        assert_eq!(sheet(&words, b, &mut scratch, &mut output), accepted);
         let made = coefficients.map(coefficient_word);
         assert_eq!(scratch, elements);
         assert_eq!(
             output[..],
             [&[COEFFICIENT_HEAD], &made[..], &[END, 7, 7]].concat()
         );
+    }
+}
+
+#[test]
+fn the_two_sums_of_a_sheet_are_those_of_its_samples() {
+    let (lowest, highest) = (LOWEST_SAMPLE, HIGHEST_SAMPLE);
+    for (blocks, in_turn, sum) in [
+        (1, [1, 1], 64),
+        (1, [-1, 0], -32),
+        (2, [0, 0], 0),
+        (2, [highest, -highest], 0),
+        (3, [-7, 5], -192),
+        (3, [7, -5], 192),
+        (128, [lowest, highest], -4096),
+        (128, [lowest, lowest], -16_777_216),
+        (128, [highest, highest], 16_769_024),
+    ] {
+        let body = in_turn.map(sample_word).repeat(32 * blocks as usize);
+        let (head, end) = (SAMPLE_HEAD - 1 + blocks, END - 1 + blocks);
+        let words = [&[head], &body[..], &[end]].concat();
+        for b in WIDTHS {
+            let (mut scratch, mut output) = ([0; COMPONENTS], vec![0; words.len()]);
+            let came = sheet(&words, b, &mut scratch, &mut output);
+            assert_eq!(came, transformed(words.len(), sum));
+        }
     }
 }
 
@@ -444,10 +484,10 @@ fn the_range_of_a_sheet_goes_over_all_its_blocks() {
 fn the_range_of_what_sheet_writes_is_that_of_its_floats() {
     let mut words = one_block();
     for (n, word) in (0..64).zip(&mut words[1..]) {
-        *word = SAMPLE | (n * n * 37 % 4096 - 2048) as u32 & 0x0FFF_FFFF;
+        *word = sample_word(n * n * 37 % 4096 - 2048);
     }
     let (mut scratch, mut output, mut coefficients) = ([0; COMPONENTS], [0; 66], [0; PLACES]);
-    assert_eq!(sheet(&words, 26, &mut scratch, &mut output), Ok(66));
+    assert!(sheet(&words, 26, &mut scratch, &mut output).is_ok());
     assert_eq!(round(&scratch, 26, &mut coefficients), Ok(()));
     let floats = floats_of(&coefficients);
     let lowest = floats.iter().copied().fold(f32::INFINITY, f32::min);

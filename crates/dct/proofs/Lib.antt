@@ -9,3 +9,4 @@ pub mod Conjugates
 pub mod Parts
 pub mod Halves
 pub mod IntegerBack
+pub mod First

@@ -1,10 +1,11 @@
 -- A block's elements, as they stand in a buffer; and that they are an accepted set.
 -- Assumes nothing.
-use mathlib.Core.Path.{_≡_, _∙_}
+use mathlib.Core.Path.{_≡_, ap, _∙_}
 use mathlib.Core.List.{List}
 use Prim.Native.Nat.{ℕ, suc, _+_, _-_, _*_, _/_, _%_, _≤_, _<_}
 use native.Mathlib.Omega.{arith}
-use lib.IntN.{ℤ, pos}
+use lib.Dec.{lit<}
+use lib.IntN.{ℤ, pos, _*ℤ_}
 use lib.ListN.{length, getD}
 use Rattle.integers.proofs.Tables.{getD-table, length-table}
 use Rattle.limits.specs.Limits.{places-in, components-in, sample-limit, magnitudes-limit-in}
@@ -14,9 +15,10 @@ use Rattle.ring.proofs.Components.{Eight, eight-only}
 use Rattle.dct.specs.Transform.{element, Bounded}
 use Rattle.dct.proofs.Factors.{eight-element, eight-step}
 use Rattle.dct.proofs.Bound.{bound}
+use Rattle.dct.proofs.First.{first-element}
 use Rattle.elements.specs.Buffer.{element-at}
 use Rattle.elements.proofs.Buffers.{element-stored}
-use Rattle.element_sets.specs.Sets.{sample, AllInRange, elements-of, frequencies, AcceptedSet}
+use Rattle.element_sets.specs.Sets.{sample, block-sum, AllInRange, elements-of, frequencies, AcceptedSet}
 
 module _ (d : ℕ) (x : List ℤ) where
   pub length-elements : length (elements-of d x) ≡ components-in d
@@ -35,6 +37,10 @@ module _ (d : ℕ) (x : List ℤ) where
   pub element-of : (p : ℕ) → p < places-in d → element-at (elements-of d x) p ≡ element d (sample x) p
   unfolding elements-of
   element-of p h = element-stored (element d (sample x)) p h (eight-element d (sample x) p)
+
+-- the first element of a block is twice the sum of its samples
+pub first-component : (x : List ℤ) (k : ℕ) → component (element-at (elements-of 2 x) 0) k ≡ block-sum x *ℤ component (integer (pos 2)) k
+first-component x k = ap (λ u. component u k) (element-of 2 x 0 (lit< tt)) ∙ first-element (sample x) k
 
 -- the samples of a column
 abbrev pub column : List ℤ → ℕ → ℕ → ℤ

@@ -4,10 +4,11 @@ use mathlib.Core.Bool.{Bool, true}
 use mathlib.Core.List.{List}
 use Prim.Native.Nat.{ℕ, _+_, _*_, _/_, _%_, _≤_, _<_}
 use lib.Dec.{ltb}
-use lib.IntN.{ℤ, pos}
+use lib.IntN.{ℤ, pos, _+ℤ_}
 use lib.ListN.{length, getD}
+use Rattle.integers.specs.Sum.{sum}
 use Rattle.integers.specs.Table.{table}
-use Rattle.limits.specs.Limits.{places-in, components-in, in-range}
+use Rattle.limits.specs.Limits.{places, places-in, components-in, in-range}
 use Rattle.ring.specs.Element.{component, integer, magnitudes}
 use Rattle.dct.specs.Transform.{element, step}
 use Rattle.elements.specs.Buffer.{element-at}
@@ -17,6 +18,10 @@ use Rattle.elements.specs.Buffer.{element-at}
 -- sample q of a buffer; sample (i,j) of a block of two dimensions has the index 8i+j
 abbrev pub sample : List ℤ → ℕ → ℤ
 sample x q = getD x q (pos 0)
+
+-- the sum of the samples of a block of two dimensions
+abbrev pub block-sum : List ℤ → ℤ
+block-sum x = sum (pos 0) _+ℤ_ places (sample x)
 
 -- every sample of a block is in range
 pub record AllInRange (d : ℕ) (x : List ℤ) : Type 0 where

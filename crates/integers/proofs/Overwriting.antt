@@ -7,7 +7,7 @@ use native.Mathlib.Nat.{add-zero, zero-add, suc-add}
 use native.Mathlib.Numerals.{add-one}
 use native.Mathlib.Omega.{arith}
 use lib.ListN.{length, getD, set, take, drop, length-append, length-take, length-drop, take-append-drop, List·getD-append}
-use lib.Seq.{getD-append-add, getD-drop, drop-cons, drop-drop, set-at, take-at, drop-at, drop-append-le}
+use lib.Seq.{getD-append-add, getD-drop, getD-take, drop-cons, drop-drop, set-at, take-at, drop-at, drop-append-le}
 use Rattle.integers.specs.Table.{table, over}
 use Rattle.integers.proofs.Tables.{length-table}
 
@@ -74,6 +74,10 @@ module _ {A : Type 0} where
       let m = drop (length p) l in
       let room : length q ≤ length m = simp length-drop (omega arith) in
       rw (take-at p m a e, drop-at p m a e) (ap (λ t. p ++ t) (part-back q m k h room) ∙ over-part p q l)
+
+  -- what stood before such a part is kept
+  pub before-part : (l m : List A) (a : ℕ) (d : A) (i : ℕ) → a ≤ length l → i < a → getD (take a l ++ m) i d ≡ getD l i d
+  before-part l m a d i h k = List·getD-append (take a l) m d i (simp length-take (omega arith)) ∙ getD-take a l i d k
 
 -- a loop that writes over the start of a buffer, place by place
 

@@ -1,26 +1,32 @@
 -- Which calls rounding accepts: those with an accepted set, a buffer of 64 coefficients and one of the three widths. A block's set, the
--- elements that forward writes for a block in range, is one.
+-- elements that forward writes for a block in range, is one. A block's first coefficient is the sum of its samples.
 -- Assumes nothing.
-use mathlib.Core.Path.{_≡_, refl}
-use mathlib.Core.Bool.{false}
+use mathlib.Core.Path.{_≡_, refl, _∙_}
+use mathlib.Core.Bool.{false, cond}
 use mathlib.Core.List.{List}
-use Prim.Native.Nat.{ℕ, _≤_, _<_}
-use lib.Dec.{T, lit<}
-use lib.IntN.{ℤ, pos, natAbs}
+use Prim.Native.Nat.{ℕ, suc, _+_, _^_, _≤_, _<_}
+use native.Mathlib.Omega.{arith}
+use lib.Dec.{T, eqb, lit<}
+use lib.IntN.{ℤ, pos, _*ℤ_, natAbs, *ℤ-comm, *ℤ-zero}
 use lib.ListN.{length, getD}
+use borrow.Author.Tests.{ne-eqb}
 use Rattle.integers.proofs.Tables.{getD-table}
 use Rattle.limits.specs.Limits.{places, components-size, magnitudes-limit}
+use Rattle.ring.specs.Element.{component}
+use Rattle.rounding_error.specs.Width.{numerator}
+use Rattle.rounding_error.proofs.Coefficient.{coefficient-whole, numerator-whole}
+use Rattle.elements.specs.Buffer.{element-at}
 use Rattle.answers.specs.Answer.{Returned, Reason, accept, accepted}
 use Rattle.answers.proofs.Causes as causes
 use Rattle.answers.proofs.Lengths.{both-right, right-both}
-use Rattle.element_sets.specs.Sets.{AllInRange, elements-of, AcceptedSet}
-use Rattle.element_sets.proofs.Blocks.{block-set}
+use Rattle.element_sets.specs.Sets.{AllInRange, elements-of, AcceptedSet, block-sum}
+use Rattle.element_sets.proofs.Blocks.{block-set, first-component}
 use Rattle.element_sets.proofs.Limit.{none-above, passed}
 use Rattle.transform.specs.Forward.{forward-returned, forward-elements}
 use Rattle.transform.proofs.Acceptance.{forward-set}
 use Rattle.rounding.specs.Preconditions.{Ready}
 use Rattle.rounding.specs.Rounding.{coefficient-at, coefficients-of, round-causes, round-returned, round-coefficients}
-use Rattle.rounding.specs.Tables.{width}
+use Rattle.rounding.specs.Tables.{table-numbers, width}
 use Rattle.rounding.proofs.Sizes.{sized, coefficient-small}
 
 pub accepts : {e : List ℤ} {b : ℕ} {c : List ℤ} → Ready e b c → round-returned 2 e b c ≡ accept
@@ -58,6 +64,23 @@ pub coefficient-size : {e : List ℤ} (b : ℕ) → AcceptedSet places magnitude
 coefficient-size {e} b S w p h =
     rw (getD-table places (coefficient-at 2 b e) (pos 0) p h)
     (coefficient-small (sized (record { at-width = w; are-numbers = refl; in-limit = S .in-limit p h })))
+
+-- "the sum of all first coefficients": a block's first coefficient is the sum of its samples, since N there is 2^(b+1) times that sum
+
+module _ (b : ℕ) (x : List ℤ) where
+  whole : component (element-at (elements-of 2 x) 0) 0 ≡ pos 2 *ℤ block-sum x
+  whole = first-component x 0 ∙ *ℤ-comm (block-sum x) (pos 2)
+
+  alone : (k : ℕ) → k < 7 → component (element-at (elements-of 2 x) 0) (suc k) ≡ pos 0
+  alone k h =
+      let other = getD-table 8 (λ i. cond (eqb i 0) (pos 2) (pos 0)) (pos 0) (suc k) (omega arith) in
+      first-component x (suc k) ∙ rw (other, ne-eqb (suc k) 0 (λ e. omega arith)) (*ℤ-zero (block-sum x))
+
+  pub first-numerator : numerator b (table-numbers b) (element-at (elements-of 2 x) 0) ≡ pos (2 ^ (b + 1)) *ℤ block-sum x
+  first-numerator = numerator-whole 1 b (table-numbers b) (element-at (elements-of 2 x) 0) (block-sum x) whole alone
+
+  pub first-coefficient : getD (coefficients-of 2 b (elements-of 2 x)) 0 (pos 0) ≡ block-sum x
+  first-coefficient = coefficient-whole 1 b (table-numbers b) (element-at (elements-of 2 x) 0) (block-sum x) whole alone
 
 -- blocks' sets
 

@@ -3,14 +3,15 @@
 -- Assumes nothing.
 use mathlib.Core.Path.{_≡_, refl, sym, ap, ap₂, _∙_}
 use mathlib.Core.List.{List}
-use Prim.Native.Nat.{ℕ, suc, _+_, _*_, _^_, _≤_}
-use lib.IntN.{ℤ, pos, _+ℤ_, _*ℤ_, negℤ, negℤ-+ℤ}
-use lib.Pow.{pow-pos}
+use Prim.Native.Nat.{ℕ, suc, _+_, _*_, _^_, _≤_, _<_}
+use native.Mathlib.Omega.{arith}
+use lib.IntN.{ℤ, pos, _+ℤ_, _-ℤ_, _*ℤ_, negℤ, natAbs, negℤ-+ℤ, +ℤ-idr, +ℤ-invr, *ℤ-zero, pos-*ℤ-pos}
+use lib.Pow.{pow-add, pow-pos}
 use Rattle.integers.specs.Nearest.{Rounded, Away, half-away}
 use Rattle.integers.specs.Sum.{sum}
-use Rattle.integers.proofs.Integer.{*ℤ-negℤ}
+use Rattle.integers.proofs.Integer.{*ℤ-assoc, *ℤ-negℤ}
 use Rattle.integers.proofs.Nearest.{half-away-rounded, only-half-away, half-away-mirrored}
-use Rattle.integers.proofs.Sums.{sum-cong, sum-map}
+use Rattle.integers.proofs.Sums.{integers, sum-cong, sum-map, sum-none}
 use Rattle.ring.specs.Element.{component, negate, magnitudes}
 use Rattle.ring.proofs.Components.{component-negate}
 use Rattle.rounding_error.specs.Value.{Near}
@@ -29,6 +30,22 @@ module _ (s b : ℕ) (m u : List ℤ) where
 
   pub coefficient-near : (E : ℕ) → TableAt b m → magnitudes u ≤ 2 ^ (s + 1) * E → Near s (coefficient s b m u) u (distance E b)
   coefficient-near E table small = near s b E m u table small (coefficient s b m u) (coefficient-rounded .nearest)
+
+-- an element that is 2^s times a whole number z: nothing is left to round
+module _ (s b : ℕ) (m u : List ℤ) (z : ℤ) (whole : component u 0 ≡ pos (2 ^ s) *ℤ z) (alone : (k : ℕ) → k < 7 → component u (suc k) ≡ pos 0) where
+  pub numerator-whole : numerator b m u ≡ pos (2 ^ (b + s)) *ℤ z
+  unfolding numerator
+  numerator-whole =
+      let power : pos (2 ^ b) *ℤ pos (2 ^ s) ≡ pos (2 ^ (b + s)) = pos-*ℤ-pos (2 ^ b) (2 ^ s) ∙ ap pos (sym (pow-add 2 b s)) in
+      let head = ap (λ t. pos (2 ^ b) *ℤ t) whole ∙ sym (*ℤ-assoc (pos (2 ^ b)) (pos (2 ^ s)) z) ∙ ap (λ t. t *ℤ z) power in
+      let rest = sum-cong (pos 0) _+ℤ_ 7 _ (λ k. pos 0) (λ k h. ap (λ t. component m k *ℤ t) (alone k h) ∙ *ℤ-zero (component m k)) ∙ sum-none (pos 0) _+ℤ_ integers 7 in
+      ap₂ _+ℤ_ head rest ∙ +ℤ-idr (pos (2 ^ (b + s)) *ℤ z)
+
+  pub coefficient-whole : coefficient s b m u ≡ z
+  coefficient-whole =
+      let D = 2 ^ (b + s) in
+      let none : natAbs (pos D *ℤ z -ℤ numerator b m u) ≡ 0 = rw numerator-whole (ap natAbs (+ℤ-invr (pos D *ℤ z))) in
+      sym (only-coefficient s b m u (record { nearest = record { within-half = omega arith }; at-half = λ e. absurd (omega (arith, pow-pos (b + s))) }))
 
 -- all components negated
 

@@ -1,4 +1,5 @@
 -- The laws of a sheet's blocks.
-pub mod Samples
 pub mod Output
+pub mod Samples
+pub mod Sums
 pub mod Loop

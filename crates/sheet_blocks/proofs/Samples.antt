@@ -9,19 +9,21 @@ use native.Mathlib.Omega.{arith}
 use lib.Arith.{digits-div, digits-mod}
 use lib.Dec.{T, lit<}
 use lib.IntN.{ℤ, pos}
-use lib.ListN.{length}
-use Rattle.integers.proofs.Tables.{getD-table, length-table}
+use lib.ListN.{length, getD}
+use Rattle.integers.proofs.Tables.{getD-table}
 use Rattle.limits.specs.Limits.{places}
 use Rattle.element_sets.specs.Sets.{AllInRange, elements-of}
 use Rattle.element_sets.proofs.Blocks.{block-set}
 use Rattle.rounding.specs.Preconditions.{Ready}
 use Rattle.rounding.specs.Tables.{width}
 use Rattle.rounding.proofs.Blocks.{coefficient-size}
-use Rattle.words.specs.Word.{across, down, payload, value}
+use Rattle.words.specs.Word.{across, coefficient-kind, down, kind, payload, payload-of, value}
+use Rattle.words.proofs.Packing.{kind-word, payload-of-below, payload-word, small-in-range, value-of-payload}
 use Rattle.sheet_checks.specs.Check.{word-at, blocks}
 use Rattle.sheet_checks.proofs.Sheets.{samples-in-range}
 use Rattle.sheet_blocks.specs.Preconditions.{Checked, Fit}
-use Rattle.sheet_blocks.specs.Blocks.{block-number, block, block-coefficients}
+use Rattle.sheet_blocks.specs.Blocks.{block-number, block, block-coefficients, coefficient-word, output-word}
+use Rattle.sheet_blocks.proofs.Output.{output-body}
 
 factor-positive : (a d : ℕ) {k : ℕ} → k < a * d → 0 < a
 factor-positive zero d h = absurd (not-suc-le-zero (rw (zero-mul d) at h))
@@ -48,6 +50,15 @@ module _ (words : List ℕ) where
       let same : i * a + j ≡ m * a + n = rw (mul-comm i a, mul-comm m a) e in
       (sym (digits-div i h) ∙ ap (λ (k : ℕ). k / a) same ∙ digits-div m l, sym (digits-mod i h) ∙ ap (λ (k : ℕ). k % a) same ∙ digits-mod m l)
 
+-- the word of a coefficient has its kind, and its value
+coefficient-kept : {y : List ℤ} → Fit y → (p : ℕ) → p < places
+    → (kind (coefficient-word y p) ≡ coefficient-kind) × (value (payload (coefficient-word y p)) ≡ getD y p (pos 0))
+coefficient-kept {y} F p l =
+    let z = getD y p (pos 0) in
+    let range = small-in-range z (F .small p l) in
+    let below = payload-of-below z range in
+    (kind-word coefficient-kind (payload-of z) below, rw (payload-word coefficient-kind (payload-of z) below) (value-of-payload z range))
+
 module _ {words : List ℕ} {b s o : ℕ} (C : Checked words b s o) (k : ℕ) (h : k < blocks words) where
   -- the words of block k
   pub block-words : 1 + places * k + places < length words
@@ -66,11 +77,11 @@ module _ {words : List ℕ} {b s o : ℕ} (C : Checked words b s o) (k : ℕ) (h
   block-fit =
       record { small = λ i l. lt-of-le-of-lt (coefficient-size b (block-set 1 (block words k) block-range) (C .at-width) i l) (lit< tt) }
 
--- what the cores of forward and of rounding ask of a block whose samples are in range
+  -- coefficient p of block k has kind 3 in the output, and its value is the rounding at b of that block's element p
+  pub output-coefficient : (p : ℕ) → p < places
+      → (kind (output-word b words (1 + places * k + p)) ≡ coefficient-kind) × (value (payload (output-word b words (1 + places * k + p))) ≡ getD (block-coefficients b words k) p (pos 0))
+  output-coefficient p l = rw (output-body b words k p l block-words) (coefficient-kept block-fit p l)
 
-pub block-length : (words : List ℕ) (k : ℕ) → length (block words k) ≡ places
-unfolding block
-block-length words k = length-table places (λ i. value (payload (word-at words (1 + places * k + i))))
-
+-- what the core of rounding asks of a block whose samples are in range
 pub block-ready : {x e c : List ℤ} {b : ℕ} → AllInRange 2 x → e ≡ elements-of 2 x → length c ≡ places → T (width b) → Ready e b c
 block-ready {x} range same l w = record { ready-set = rw same (block-set 1 x range); coefficients-length = l; ready-width = w }

@@ -1,18 +1,24 @@
 // The blocks of a sheet (01, "Sheets"): the coefficient sheet of a sample sheet in which everything was found right.
 //
 // Block after block goes by way of the cores of `forward` and `round`, which check nothing: the check of the sheet gives what they ask. What the
-// loop carries is a record by value.
+// loop carries is a record by value, with the sums of the samples and of the first coefficients so far.
 ghost use mathlib.Core.Path.{_≡_};
 ghost use Prim.Native.Nat.{_*_, _+_, _-_, _<_, _≤_};
 ghost use lib.Dec.{T};
+ghost use lib.IntN.{_+ℤ_};
 ghost use lib.ListN.{length};
+ghost use mir.Syntax.{w64};
+ghost use mir.Val.{SFits};
 ghost use Rattle.integers.specs.Table.{over, table};
 ghost use Rattle.limits.specs.Limits.{components-size, places};
-ghost use Rattle.element_sets.specs.Sets.{AllInRange, elements-of};
+ghost use Rattle.element_sets.specs.Sets.{AllInRange, block-sum, elements-of};
+ghost use Rattle.rounding.specs.Rounding.{coefficients-of};
 ghost use Rattle.rounding.specs.Tables.{width};
 ghost use Rattle.sheet_checks.specs.Check.{blocks};
 ghost use Rattle.sheet_blocks.specs.Blocks as sheet;
 ghost use Rattle.sheet_blocks.specs.Preconditions.{Advanced, Checked, Fit};
+ghost use Rattle.sheet_blocks.specs.Sums.{Agree};
+use integers::plus;
 use limits::PLACES;
 use rounding::fill;
 use transform::transform;
@@ -23,9 +29,16 @@ use words::value;
 use words::with_payload;
 use words::with_value;
 
-// How far a sheet has come: the blocks that are done.
+// The sum of samples, and that of the first coefficients of blocks in eighths. 64 bits hold those of any sheet.
+pub struct Totals {
+    pub samples: i64,
+    pub firsts: i64,
+}
+
+// How far a sheet has come: the blocks that are done, and their sums.
 struct Progress {
     blocks: usize,
+    totals: Totals,
 }
 
 // The samples of block k.
@@ -43,6 +56,20 @@ fn block(words: &[u32], k: usize) -> [i32; PLACES]
     samples
 }
 
+// The sum of a block's samples: since each is in range it fits 32 bits, and the compiler adds several such numbers at a time.
+fn sum(samples: &[i32; PLACES]) -> i32
+    requires { ⌜ AllInRange 2 (now samples) ⌝ }
+    ensures { λ r. ⌜ r ≡ block-sum (now (samples .entry)) ⌝ }
+{
+    let mut total = 0i32;
+    let mut i = 0;
+    while i < PLACES {
+        total = plus(total, samples[i]);
+        i += 1;
+    }
+    total
+}
+
 // The words of a block's coefficients, at the start of a part of the output.
 fn store(coefficients: [i32; PLACES], output: &mut [u32])
     requires { ⌜ Fit coefficients ⌝ }
@@ -56,22 +83,30 @@ fn store(coefficients: [i32; PLACES], output: &mut [u32])
     }
 }
 
-// The coefficients of block k; its elements stay in the scratch.
-fn coefficients(words: &[u32], k: usize, b: u32, scratch: &mut [i32]) -> [i32; PLACES]
-    requires { ⌜ T (width b) ⌝ }
-    requires { ⌜ 1 + places * k + places ≤ length (now words) ⌝ }
-    requires { ⌜ AllInRange 2 (sheet.block (now words) k) ⌝ }
-    requires { ⌜ length (now scratch) ≡ components-size ⌝ }
-    ensures { λ r. ⌜ r ≡ sheet.block-coefficients b (now (words .entry)) k ⌝ }
-    ensures { λ r. ⌜ now (scratch .exit) ≡ elements-of 2 (sheet.block (now (words .entry)) k) ⌝ }
+// t + x, where it fits.
+fn added(t: i64, x: i32) -> i64
+    requires { ⌜ SFits w64 (t +ℤ x) ⌝ }
+    ensures { λ r. ⌜ r ≡ t +ℤ x ⌝ }
 {
-    transform(&block(words, k), scratch);
+    let wide = x as i64;
+    t + wide
+}
+
+// The coefficients of a block; its elements stay in the scratch.
+fn coefficients(samples: &[i32; PLACES], b: u32, scratch: &mut [i32]) -> [i32; PLACES]
+    requires { ⌜ T (width b) ⌝ }
+    requires { ⌜ AllInRange 2 (now samples) ⌝ }
+    requires { ⌜ length (now scratch) ≡ components-size ⌝ }
+    ensures { λ r. ⌜ r ≡ coefficients-of 2 b (elements-of 2 (now (samples .entry))) ⌝ }
+    ensures { λ r. ⌜ now (scratch .exit) ≡ elements-of 2 (now (samples .entry)) ⌝ }
+{
+    transform(samples, scratch);
     let mut coefficients = [0i32; PLACES];
     fill(scratch, b, &mut coefficients);
     coefficients
 }
 
-// One block more: its words go to the output, and its elements to the scratch.
+// One block more: its words go to the output, its elements to the scratch, and both sums take it in.
 fn next_block(
     state: Progress,
     words: &[u32],
@@ -81,38 +116,57 @@ fn next_block(
 ) -> Progress
     requires { ⌜ Checked (now words) b (length (now scratch)) (length (now output)) ⌝ }
     requires { ⌜ state .blocks < blocks (now words) ⌝ }
+    requires { ⌜ Agree (now words) (now output) (state .blocks) (state .totals) ⌝ }
     ensures { λ r. ⌜ r .blocks ≡ state .blocks + 1 ⌝ }
+    ensures { λ r. ⌜ Agree (now (words .entry)) (now (output .exit)) (r .blocks) (r .totals) ⌝ }
     ensures { λ r. ⌜ now (scratch .exit) ≡ elements-of 2 (sheet.block (now (words .entry)) (state .blocks)) ⌝ }
     ensures { λ r. ⌜ Advanced b (now (words .entry)) (state .blocks) (state .blocks + 1) (now (output .entry)) (now (output .exit)) ⌝ }
 {
     let k = state.blocks;
     let first = 1 + PLACES * k;
-    store(coefficients(words, k, b, scratch), &mut output[first..]);
-    Progress { blocks: k + 1 }
+    let samples = block(words, k);
+    store(coefficients(&samples, b, scratch), &mut output[first..]);
+    Progress {
+        blocks: k + 1,
+        totals: Totals {
+            samples: added(state.totals.samples, sum(&samples)),
+            firsts: added(state.totals.firsts, value(output[first])),
+        },
+    }
 }
 
-// Every block, one after the other.
-fn all_blocks(words: &[u32], b: u32, scratch: &mut [i32], output: &mut [u32])
+// Every block, one after the other, and their sums.
+fn all_blocks(words: &[u32], b: u32, scratch: &mut [i32], output: &mut [u32]) -> Totals
     requires { ⌜ Checked (now words) b (length (now scratch)) (length (now output)) ⌝ }
+    ensures { λ r. ⌜ Agree (now (words .entry)) (now (output .exit)) (blocks (now (words .entry))) r ⌝ }
     ensures { λ r. ⌜ now (scratch .exit) ≡ elements-of 2 (sheet.block (now (words .entry)) (blocks (now (words .entry)) - 1)) ⌝ }
     ensures { λ r. ⌜ Advanced b (now (words .entry)) 0 (blocks (now (words .entry))) (now (output .entry)) (now (output .exit)) ⌝ }
 {
     // Head and end word are fewer than a block, so that what is left of the division is theirs.
     let n = words.len() / PLACES;
-    let mut state = Progress { blocks: 0 };
+    let mut state = Progress {
+        blocks: 0,
+        totals: Totals {
+            samples: 0,
+            firsts: 0,
+        },
+    };
     while state.blocks < n {
         state = next_block(state, words, b, scratch, output);
     }
+    state.totals
 }
 
-// The coefficient sheet of a sample sheet in which everything was found right.
-pub fn convert(words: &[u32], b: u32, scratch: &mut [i32], output: &mut [u32])
+// The coefficient sheet of a sample sheet in which everything was found right, and the sums of both.
+pub fn convert(words: &[u32], b: u32, scratch: &mut [i32], output: &mut [u32]) -> Totals
     requires { ⌜ Checked (now words) b (length (now scratch)) (length (now output)) ⌝ }
+    ensures { λ r. ⌜ Agree (now (words .entry)) (sheet.coefficient-sheet b (now (words .entry))) (blocks (now (words .entry))) r ⌝ }
     ensures { λ r. ⌜ now (scratch .exit) ≡ elements-of 2 (sheet.block (now (words .entry)) (blocks (now (words .entry)) - 1)) ⌝ }
     ensures { λ r. ⌜ now (output .exit) ≡ over (sheet.coefficient-sheet b (now (words .entry))) (now (output .entry)) ⌝ }
 {
     output[0] = with_payload(COEFFICIENT_HEAD, payload(words[0]));
-    all_blocks(words, b, scratch, output);
+    let totals = all_blocks(words, b, scratch, output);
     let end = words.len() - 1;
     output[end] = words[end];
+    totals
 }

@@ -1,5 +1,3 @@
--- The laws that the proofs of the functions cite.
-pub mod Answers
-pub mod Decimals
+-- The laws of what the programs share.
 pub mod Inputs
-pub mod Lines
+pub mod Programs

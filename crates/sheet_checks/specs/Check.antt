@@ -36,6 +36,10 @@ coefficient-format =
 abbrev pub word-at : List ℕ → ℕ → ℕ
 word-at words i = getD words i 0
 
+-- the value in its payload
+abbrev pub value-at : List ℕ → ℕ → ℤ
+value-at words i = value (payload (word-at words i))
+
 -- the blocks that a sheet's head announces
 abbrev pub blocks : List ℕ → ℕ
 blocks words = across (word-at words 0) * down (word-at words 0)

@@ -21,11 +21,11 @@ use Rattle.limits.specs.Limits.{places, coefficient-limit}
 use Rattle.floats.specs.Fraction.{coefficient-float}
 use Rattle.floats.proofs.Comparison.{in-order}
 use Rattle.floats.proofs.Fractions.{exact-limit, few-digits}
-use Rattle.sheet_checks.specs.Check.{coefficient-format, blocks}
+use Rattle.sheet_checks.specs.Check.{coefficient-format, value-at, blocks}
 use Rattle.sheet_checks.specs.Sheets.{RightSheet}
 use Rattle.sheet_checks.proofs.Sheets.{some-blocks, coefficients-in-limit}
 use Rattle.sheet_range.specs.Preconditions.{InBody}
-use Rattle.sheet_range.specs.SheetRange.{value-at, float-at, has-lower, has-higher, lowest-word, highest-word, lowest-float, highest-float}
+use Rattle.sheet_range.specs.SheetRange.{float-at, has-lower, has-higher, lowest-word, highest-word, lowest-float, highest-float}
 
 module _ (words : List ℕ) where
   pub by-lower : Order (has-lower words)

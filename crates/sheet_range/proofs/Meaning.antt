@@ -23,7 +23,7 @@ use Rattle.floats.proofs.Fractions.{exact}
 use Rattle.element_sets.proofs.Blocks.{block-set}
 use Rattle.rounding.proofs.Blocks.{coefficient-size}
 use Rattle.words.specs.Word.{across, coefficient-head-kind, coefficient-kind, down, kind, payload}
-use Rattle.sheet_checks.specs.Check.{sample-format, coefficient-format, outside, word-at, blocks, size-of}
+use Rattle.sheet_checks.specs.Check.{sample-format, coefficient-format, outside, word-at, value-at, blocks, size-of}
 use Rattle.sheet_checks.specs.Sheets.{RightShape, RightSheet}
 use Rattle.sheet_checks.proofs.Sheets.{some-blocks}
 use Rattle.sheet_blocks.specs.Blocks.{block, block-coefficients}
@@ -32,7 +32,7 @@ use Rattle.sheet_blocks.proofs.Samples.{block-range, block-words}
 use Rattle.sheets.specs.Sheet.{sheet-output, sheet-returned}
 use Rattle.sheets.proofs.Causes.{accepted-checked}
 use Rattle.sheets.proofs.Meaning as sheets
-use Rattle.sheet_range.specs.SheetRange.{range-returned, value-at, float-at, has-lower, has-higher, lowest-word, highest-word, lowest-float, highest-float, range-lowest, range-highest}
+use Rattle.sheet_range.specs.SheetRange.{range-returned, float-at, has-lower, has-higher, lowest-word, highest-word, lowest-float, highest-float, range-lowest, range-highest}
 use Rattle.sheet_range.proofs.Causes.{accepts, accepted-means}
 use Rattle.sheet_range.proofs.Extremes.{by-lower, by-higher, in-digits}
 

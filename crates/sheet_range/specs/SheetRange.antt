@@ -3,24 +3,18 @@ use mathlib.Core.Bool.{Bool, cond}
 use mathlib.Core.List.{List}
 use Prim.Native.Nat.{ℕ, _-_}
 use lib.Ieee.{Float}
-use lib.IntN.{ℤ}
 use lib.ListN.{length}
 use lib.Signed.{ltZ}
 use Rattle.integers.specs.Search.{foremost}
 use Rattle.answers.specs.Answer.{Returned, answered, accept, accepted}
-use Rattle.words.specs.Word.{payload, value}
 use Rattle.floats.specs.Fraction.{coefficient-float, plus-zero}
-use Rattle.sheet_checks.specs.Check.{coefficient-format, check-causes, word-at}
+use Rattle.sheet_checks.specs.Check.{coefficient-format, check-causes, value-at}
 
 -- "A coefficient sheet is checked as 01 checks a sample sheet"
 unfoldable pub range-returned : List ℕ → Returned
 range-returned words = answered (check-causes coefficient-format words) accept
 
--- the coefficient of word i, and its float
-
-abbrev pub value-at : List ℕ → ℕ → ℤ
-value-at words i = value (payload (word-at words i))
-
+-- the float of word i's coefficient
 abbrev pub float-at : List ℕ → ℕ → Float
 float-at words i = coefficient-float (value-at words i)
 

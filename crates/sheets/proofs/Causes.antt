@@ -5,7 +5,7 @@ use mathlib.Core.Bool.{Bool, true, false, not, _&&_}
 use mathlib.Core.List.{List, [], _∷_}
 use Prim.Native.Nat.{ℕ, _-_, _≤_, _<_}
 use lib.Dec.{T, eqb, leb, lit<, eqb→eq, leb→le}
-use lib.IntN.{ℤ}
+use lib.IntN.{ℤ, pos}
 use lib.ListN.{length}
 use mir.Facts.{and-yes}
 use borrow.Author.Tests.{eq-eqb, ne-eqb, le-leb, lt-leb, ltb-true, not-true, not-false}
@@ -21,8 +21,10 @@ use Rattle.sheet_checks.specs.Sheets.{RightShape, RightSheet, WordFault}
 use Rattle.sheet_checks.proofs.Causes as checks
 use Rattle.sheet_checks.proofs.Sheets.{right-shape, shape-passes, contents-pass, right-sheet, refused-word}
 use Rattle.sheet_blocks.specs.Preconditions.{Checked}
+use Rattle.sheet_blocks.specs.declared.Totals.{Totals}
 use Rattle.sheet_blocks.specs.Blocks.{block, coefficient-sheet}
-use Rattle.sheets.specs.Sheet.{sheet-causes, sheet-output, sheet-returned, sheet-scratch}
+use Rattle.sheet_blocks.specs.Sums.{Agree}
+use Rattle.sheets.specs.Sheet.{sheet-causes, sheet-first-sum, sheet-output, sheet-returned, sheet-sample-sum, sheet-scratch}
 
 module _ (words : List ℕ) (b s o : ℕ) where
   abbrev end : Returned
@@ -118,25 +120,34 @@ module _ (words : List ℕ) (b s o : ℕ) where
 
 module _ (words : List ℕ) (b : ℕ) (scratch : List ℤ) (output : List ℕ) {a : Returned} (e : a ≡ sheet-returned words b (length scratch) (length output))
     {n : ℕ} (f : n ≡ a .number) where
-  -- what `sheet` promises of its answer and of the buffers that it leaves
-  abbrev Promised : List ℤ → List ℕ → Type 0
-  Promised made left =
-      (a ≡ sheet-returned words b (length scratch) (length output)) × ((made ≡ sheet-scratch words b scratch output) × (left ≡ sheet-output words b scratch output))
+  abbrev s : ℕ
+  s = length scratch
 
-  pub refused-sheet : (n ≡ 0 → ⊥) → Promised scratch output
-  unfolding sheet-scratch sheet-output
-  refused-sheet x =
+  abbrev o : ℕ
+  o = length output
+
+  -- what `sheet` promises of its answer, of both sums and of the buffers that it leaves
+  abbrev Promised : Returned → ℤ → ℤ → List ℤ → List ℕ → Type 0
+  Promised r samples firsts made left =
+      (r ≡ sheet-returned words b s o) × ((samples ≡ sheet-sample-sum words b s o) × ((firsts ≡ sheet-first-sum words b s o)
+      × ((made ≡ sheet-scratch words b scratch output) × (left ≡ sheet-output words b scratch output))))
+
+  pub refused-sheet : (n ≡ 0 → ⊥) → {r : Returned} {samples firsts : ℤ} → r ≡ a → samples ≡ pos 0 → firsts ≡ pos 0 → Promised r samples firsts scratch output
+  unfolding sheet-sample-sum sheet-first-sum sheet-scratch sheet-output
+  refused-sheet x same p q =
       let refused = refused-number a f x in
-      (e, (rw (← e, refused), rw (← e, refused)))
+      (same ∙ e, (p ∙ rw (← e, refused), (q ∙ rw (← e, refused), (rw (← e, refused), rw (← e, refused)))))
 
   module _ (z : n ≡ 0) where
     is-accepted : T (accepted a)
     is-accepted = accepted-number a f z
 
-    pub checked : Checked words b (length scratch) (length output)
-    checked = accepted-checked words b (length scratch) (length output) (rw e at is-accepted)
+    pub checked : Checked words b s o
+    checked = accepted-checked words b s o (rw e at is-accepted)
 
-    pub accepted-sheet : {made : List ℤ} {left : List ℕ} → made ≡ elements-of 2 (block words (blocks words - 1))
-        → left ≡ over (coefficient-sheet b words) output → Promised made left
-    unfolding sheet-scratch sheet-output
-    accepted-sheet s o = (e, (s ∙ rw (← e, ← f, z), o ∙ rw (← e, ← f, z)))
+    pub accepted-sheet : {made : List ℤ} {left : List ℕ} (t : Totals) → Agree words (coefficient-sheet b words) (blocks words) t
+        → made ≡ elements-of 2 (block words (blocks words - 1)) → left ≡ over (coefficient-sheet b words) output
+        → Promised a (t .samples) (t .firsts) made left
+    unfolding sheet-sample-sum sheet-first-sum sheet-scratch sheet-output
+    accepted-sheet t A m l =
+        (e, (A .of-samples ∙ rw (← e, ← f, z), (A .of-firsts ∙ rw (← e, ← f, z), (m ∙ rw (← e, ← f, z), l ∙ rw (← e, ← f, z)))))

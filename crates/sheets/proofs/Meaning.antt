@@ -1,11 +1,11 @@
 -- What a call of the sheet job leaves, word by word.
 -- Assumes nothing.
-use mathlib.Core.Path.{_≡_, sym, ap, ap₂, _∙_}
-use mathlib.Core.Bool.{false}
+use mathlib.Core.Path.{_≡_, refl, sym, ap, ap₂, _∙_}
+use mathlib.Core.Bool.{Bool, true, false, cond}
 use mathlib.Core.List.{List}
 use Prim.Native.Nat.{ℕ, _+_, _-_, _*_, _≤_, _<_}
 use native.Mathlib.Omega.{arith}
-use lib.Dec.{T}
+use lib.Dec.{T, lit<}
 use lib.IntN.{ℤ, pos}
 use lib.ListN.{length, getD}
 use Rattle.integers.specs.Table.{table, over}
@@ -17,20 +17,23 @@ use Rattle.rounding_error.specs.Width.{distance}
 use Rattle.elements.specs.Buffer.{element-at}
 use Rattle.answers.specs.Answer.{accept-words, accepted}
 use Rattle.answers.proofs.Causes as causes
-use Rattle.element_sets.specs.Sets.{elements-of}
+use Rattle.element_sets.specs.Sets.{block-sum, elements-of}
 use Rattle.element_sets.proofs.Blocks.{block-set}
 use Rattle.rounding.specs.Rounding.{coefficients-of}
+use Rattle.rounding.proofs.Blocks.{first-coefficient}
 use Rattle.rounding.proofs.Causes.{all-near}
-use Rattle.words.specs.Word.{across, coefficient-head-kind, coefficient-kind, down, kind, payload, payload-of, value, word}
-use Rattle.words.proofs.Packing.{kind-word, payload-word, payload-below, payload-of-below, small-in-range, value-of-payload}
-use Rattle.sheet_checks.specs.Check.{word-at, blocks}
+use Rattle.words.specs.Word.{across, coefficient-head-kind, coefficient-kind, down, kind, payload, value, word}
+use Rattle.words.proofs.Packing.{kind-word, payload-word, payload-below}
+use Rattle.sheet_checks.specs.Check.{word-at, value-at, blocks}
 use Rattle.sheet_checks.proofs.Sheets.{some-blocks}
 use Rattle.sheet_blocks.specs.Preconditions.{Checked}
 use Rattle.sheet_blocks.specs.Blocks.{block, block-coefficients, coefficient-sheet, coefficient-word, output-word}
-use Rattle.sheets.specs.Sheet.{sheet-output, sheet-returned, sheet-scratch}
+use Rattle.sheet_blocks.specs.Sums.{firsts-total, samples-total, first-sum}
+use Rattle.sheets.specs.Sheet.{sheet-first-sum, sheet-output, sheet-returned, sheet-sample-sum, sheet-scratch}
 use Rattle.sheets.proofs.Causes.{accepted-checked, accepted-returns}
 use Rattle.sheet_blocks.proofs.Output.{output-head, output-body, output-end}
-use Rattle.sheet_blocks.proofs.Samples.{block-words, block-range, block-fit}
+use Rattle.sheet_blocks.proofs.Samples.{block-words, block-range, output-coefficient}
+use Rattle.sheet_blocks.proofs.Sums.{same-firsts, sums-equal}
 
 -- an accepted call
 
@@ -74,12 +77,8 @@ module _ (words : List ℕ) (b : ℕ) (scratch : List ℤ) (output : List ℕ) (
   pub coefficient-left : (k p : ℕ) → k < blocks words → p < places
       → (kind (left-at (1 + places * k + p)) ≡ coefficient-kind) × (value (payload (left-at (1 + places * k + p))) ≡ getD (block-coefficients b words k) p (pos 0))
   coefficient-left k p h l =
-      let z = getD (block-coefficients b words k) p (pos 0) in
-      let range = small-in-range z (block-fit checked k h .small p l) in
-      let below = payload-of-below z range in
       let room = block-words checked k h in
-      let e : left-at (1 + places * k + p) ≡ word coefficient-kind (payload-of z) = word-left (1 + places * k + p) (omega arith) ∙ output-body b words k p l room in
-      (rw e (kind-word coefficient-kind (payload-of z) below), rw (e, payload-word coefficient-kind (payload-of z) below) (value-of-payload z range))
+      rw (word-left (1 + places * k + p) (omega arith)) (output-coefficient checked k h p l)
 
   -- and that value lies as near to half of the element as demand 3 asks
   pub near-left : (k p : ℕ) → k < blocks words → p < places
@@ -88,6 +87,26 @@ module _ (words : List ℕ) (b : ℕ) (scratch : List ℤ) (output : List ℕ) (
   near-left k p h l =
       rw (coefficient-left k p h l .1)
       (all-near (elements-of 2 (block words k)) b (block-set 1 (block words k) (block-range checked k h)) (checked .at-width) .near p l)
+
+  -- the sums are those of the words that were read and of the words that are left
+  pub sums-left : (sheet-sample-sum words b (length scratch) (length output) ≡ samples-total words)
+      × (sheet-first-sum words b (length scratch) (length output) ≡ first-sum (sheet-output words b scratch output) (blocks words))
+  unfolding sheet-sample-sum sheet-first-sum coefficient-sheet
+  sums-left =
+      let answer = sheet-returned words b (length scratch) (length output) in (
+        causes.accepted-leaves answer (samples-total words) (pos 0) a,
+        causes.accepted-leaves answer (firsts-total b words) (pos 0) a
+            ∙ same-firsts (coefficient-sheet b words) (sheet-output words b scratch output) (blocks words) (λ j h.
+            let room = block-words checked j h in
+            getD-table (length words) (output-word b words) 0 (1 + places * j) (omega arith) ∙ sym (word-left (1 + places * j) (omega arith))),
+      )
+
+  -- the first coefficient of block k is the sum of its samples
+  pub first-left : (k : ℕ) → k < blocks words → value-at (sheet-output words b scratch output) (1 + places * k) ≡ block-sum (block words k)
+  unfolding block-coefficients
+  first-left k h =
+      let index : 1 + places * k + 0 ≡ 1 + places * k = omega arith in
+      rw index at (coefficient-left k 0 h (lit< tt) .1) ∙ first-coefficient b (block words k)
 
   -- the same end word
   pub end-left : left-at (length words - 1) ≡ word-at words (length words - 1)
@@ -100,6 +119,22 @@ module _ (words : List ℕ) (b : ℕ) (scratch : List ℤ) (output : List ℕ) (
   pub beyond-left : (i : ℕ) → length words ≤ i → left-at i ≡ getD output i 0
   unfolding coefficient-sheet
   beyond-left i h = rw written-over (getD-beyond (table (length words) (output-word b words)) output 0 i (rw (length-table (length words) (output-word b words)) h))
+
+-- "The two are equal on every accepted sheet": and so on every one, since beside a refusal both are 0
+
+pub refused-sums : (words : List ℕ) (b s o : ℕ) → accepted (sheet-returned words b s o) ≡ false → (sheet-sample-sum words b s o ≡ pos 0) × (sheet-first-sum words b s o ≡ pos 0)
+unfolding sheet-sample-sum sheet-first-sum
+refused-sums words b s o r =
+    let answer = sheet-returned words b s o in
+    (causes.refused-leaves answer (samples-total words) (pos 0) r, causes.refused-leaves answer (firsts-total b words) (pos 0) r)
+
+pub same-sums : (words : List ℕ) (b s o : ℕ) → sheet-sample-sum words b s o ≡ sheet-first-sum words b s o
+unfolding sheet-sample-sum sheet-first-sum
+same-sums words b s o = go (accepted (sheet-returned words b s o)) (λ a. sums-equal (accepted-checked words b s o a))
+  where
+    go : (t : Bool) → (T t → samples-total words ≡ firsts-total b words) → cond t (samples-total words) (pos 0) ≡ cond t (firsts-total b words) (pos 0)
+    go true same = same tt
+    go false same = refl
 
 -- a refused call leaves both buffers as they were
 pub refused-leaves : (words : List ℕ) (b : ℕ) (scratch : List ℤ) (output : List ℕ) → accepted (sheet-returned words b (length scratch) (length output)) ≡ false

@@ -3,8 +3,8 @@
 //
 // Of every function here: it takes any numbers and buffers of any length, and returns. Its contract has no `requires`, and says for every input what
 // it returns and what every buffer that it may write holds afterwards: the whole result, or one refusal with its place, and then each buffer is
-// as it was and every float that is returned plus zero. It keeps nothing between calls. What a caller in another language has to see to, because
-// no function can look at it, the header says.
+// as it was, both sums that are returned 0 and every float plus zero. It keeps nothing between calls. What a caller in another language has to see
+// to, because no function can look at it, the header says.
 ghost use mathlib.Core.Path.{_≡_};
 ghost use lib.Dec.{T};
 ghost use lib.ListN.{length};
@@ -16,7 +16,7 @@ ghost use Rattle.quantization.specs.Quantization.{dequantize-coefficients, dequ
 ghost use Rattle.reorientation.specs.Reorient.{compose-returned, reorient-output, reorient-returned};
 ghost use Rattle.rounding.specs.Rounding.{AllNear, round-coefficients, round-returned};
 ghost use Rattle.sheet_range.specs.SheetRange.{range-highest, range-lowest, range-returned};
-ghost use Rattle.sheets.specs.Sheet.{sheet-output, sheet-returned, sheet-scratch};
+ghost use Rattle.sheets.specs.Sheet.{sheet-first-sum, sheet-output, sheet-returned, sheet-sample-sum, sheet-scratch};
 ghost use Rattle.transform.specs.Forward.{forward-elements, forward-returned};
 ghost use Rattle.weld_dct.specs.Returned.{number-and-place, summary-record};
 use answers::Answer;
@@ -24,7 +24,8 @@ use answers::number;
 use answers::place;
 use block_floats::BlockSummary;
 
-// What the functions return, two of them with floats beside it: 0 for an accepted call, and the number of the refusal otherwise; and the place.
+// What the functions return, three of them with sums or floats beside it: 0 for an accepted call, and the number of the refusal otherwise; and the
+// place.
 #[repr(C)]
 pub struct Returned {
     number: u32,
@@ -69,19 +70,35 @@ pub extern "C" fn weld_dct_round(elements: &[i32], b: u32, coefficients: &mut [i
     told(rounding::round(elements, b, coefficients))
 }
 
-// The coefficient sheet of a sample sheet at the width b.
+// What weld_dct_sheet returns: the number and place, which lie as if they were fields of its own, and both sums.
+#[repr(C)]
+pub struct SheetReturned {
+    returned: Returned,
+    samples: i64,
+    firsts: i64,
+}
+
+// The coefficient sheet of a sample sheet at the width b, and the sums of both.
 #[no_mangle]
 pub extern "C" fn weld_dct_sheet(
     words: &[u32],
     b: u32,
     scratch: &mut [i32],
     output: &mut [u32],
-) -> Returned
-    ensures { λ r. ⌜ number-and-place r ≡ sheet-returned (now (words .entry)) b (length (now (scratch .entry))) (length (now (output .entry))) ⌝ }
+) -> SheetReturned
+    ensures { λ r. ⌜ number-and-place (r .returned) ≡ sheet-returned (now (words .entry)) b (length (now (scratch .entry))) (length (now (output .entry))) ⌝ }
+    ensures { λ r. ⌜ r .samples ≡ sheet-sample-sum (now (words .entry)) b (length (now (scratch .entry))) (length (now (output .entry))) ⌝ }
+    ensures { λ r. ⌜ r .firsts ≡ sheet-first-sum (now (words .entry)) b (length (now (scratch .entry))) (length (now (output .entry))) ⌝ }
     ensures { λ r. ⌜ now (scratch .exit) ≡ sheet-scratch (now (words .entry)) b (now (scratch .entry)) (now (output .entry)) ⌝ }
     ensures { λ r. ⌜ now (output .exit) ≡ sheet-output (now (words .entry)) b (now (scratch .entry)) (now (output .entry)) ⌝ }
 {
-    told(sheets::sheet(words, b, scratch, output))
+    let answered = sheets::sheet(words, b, scratch, output);
+    let answer = answered.answer;
+    SheetReturned {
+        returned: told(answer),
+        samples: answered.totals.samples,
+        firsts: answered.totals.firsts,
+    }
 }
 
 // Elements in another orientation.
@@ -140,7 +157,7 @@ pub extern "C" fn weld_dct_to_floats(coefficients: &[i32], floats: &mut [f32]) -
     told(block_floats::to_floats(coefficients, floats))
 }
 
-// What weld_dct_summary returns: the number and place, which lie as if they were fields of its own, 1 for a textured block, and the floats.
+// What weld_dct_summary returns: the number and place, likewise, 1 for a textured block, and the floats.
 #[repr(C)]
 pub struct SummaryReturned {
     returned: Returned,

@@ -8,7 +8,7 @@ use native.Mathlib.Nat.{not-suc-le-zero, lt-of-le-of-lt}
 use native.Mathlib.Omega.{arith}
 use lib.Dec.{T, ltb→lt, leb→le, lit<, lt→ltb, le→leb}
 use lib.IntN.{ℤ, pos, negsuc, _+ℤ_, _-ℤ_, negℤ, natAbs}
-use lib.Signed.{_≤ℤ_, _<ℤ_, ltZ, mag, nonNeg}
+use lib.Signed.{_≤ℤ_, _<ℤ_, ltZ, mag, nonNeg, natAbs-le}
 use borrow.Author.Tests.{lt-ltb, le-ltb, ltb-true}
 use Rattle.words.specs.Word.{payloads, kind, payload, word, value-limit, value, payload-of, across, down}
 
@@ -137,3 +137,6 @@ value-in-range p l = go (decLt p value-limit)
     go (yes h) = rw (value-low p h) (small-in-range (pos p) h)
     go (no h) =
         rw (value-negsuc p (omega arith) l) (record { le = le→leb (payloads - suc p) (value-limit - 1) (omega arith) }, record { lt = tt })
+
+pub value-small : (w : ℕ) → natAbs (value (payload w)) ≤ value-limit
+value-small w = natAbs-le (value (payload w)) (in-range-mag (value (payload w)) (value-in-range (payload w) (payload-below w)))

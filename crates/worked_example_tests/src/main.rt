@@ -1,11 +1,13 @@
 // Runs 01's examples, as changed by 02, through forward, back, rounding and the sheet job, and some more calls of their kind, and prints what each
 // returns and leaves; the file stdout has what the papers say, or what follows from their rules. A line has the number and the place that the call
-// returns, and then some numbers of its buffers, which held 7 before; words are in hexadecimal.
+// returns, of a sheet both sums, and then some numbers of its buffers, which held 7 before; words are in hexadecimal.
 ghost use Prim.Native.Nat.{_<_};
 use answers::Answer;
 use inverse::back;
 use rounding::round;
+use sheets::SheetAnswer;
 use sheets::sheet;
+use text::put_signed;
 use transform::forward;
 
 fn print(n: i32, after: u8) {
@@ -26,6 +28,19 @@ fn print_answer(a: Answer) {
     io::write_all(1, b" ");
     io::print_decimal(1, answers::place(a) as u64);
     io::write_all(1, b" ");
+}
+
+fn print_sum(n: i64) {
+    let mut text = [b' '; 22];
+    let k = put_signed(n, &mut text, 0);
+    io::write_all(1, &text[..k + 1]);
+}
+
+fn print_sheet(s: SheetAnswer) {
+    let answer = s.answer;
+    print_answer(answer);
+    print_sum(s.totals.samples);
+    print_sum(s.totals.firsts);
 }
 
 // Forward of samples that are all `other`, but for x at index i: the first number, the last, and those of (0,1), (1,1) and (1,7) that
@@ -144,7 +159,7 @@ fn try_sheet(x: u32, i: usize, b: u32)
     words[i] = x;
     let mut output = [7u32; 67];
     let mut scratch = [7i32; 512];
-    print_answer(sheet(&words, b, &mut scratch, &mut output));
+    print_sheet(sheet(&words, b, &mut scratch, &mut output));
     print_word(output[0], b' ');
     print_word(output[1], b' ');
     print_word(output[2], b' ');
@@ -161,13 +176,13 @@ fn short_sheet() {
     let mut scratch = [7i32; 512];
     let mut short_scratch = [7i32; 511];
     let mut short_output = [7u32; 65];
-    print_answer(sheet(&head, 26, &mut short_scratch, &mut output));
+    print_sheet(sheet(&head, 26, &mut short_scratch, &mut output));
     print_word(output[0], b' ');
     print(short_scratch[0], b'\n');
-    print_answer(sheet(&head, 26, &mut scratch, &mut short_output));
+    print_sheet(sheet(&head, 26, &mut scratch, &mut short_output));
     print_word(short_output[0], b' ');
     print(scratch[0], b'\n');
-    print_answer(sheet(
+    print_sheet(sheet(
         &[0x10004001u32; 65],
         26,
         &mut short_scratch,
@@ -182,7 +197,7 @@ fn empty_sheet(b: u32) {
     let words = [0u32; 1];
     let mut output = [7u32; 66];
     let mut scratch = [7i32; 512];
-    print_answer(sheet(&words[..0], b, &mut scratch, &mut output));
+    print_sheet(sheet(&words[..0], b, &mut scratch, &mut output));
     print_word(output[0], b' ');
     print(scratch[0], b'\n');
 }

@@ -10,7 +10,7 @@ use Rattle.sheet_blocks.proofs.all_blocks.Statement.{statement}
 use Rattle.sheet_blocks.proofs.all_blocks.Tie as tie
 
 abbrev Inv-loop : tie.InvT-loop
-Inv-loop words b scratch₀ output₀ n state₀ scratch output state = Reached words b output₀ (state .blocks) scratch output
+Inv-loop words b scratch₀ output₀ n state₀ scratch output state = Reached words b output₀ (state .blocks) (state .totals) scratch output
 
 abbrev μ-loop : tie.MeasureT-loop
 μ-loop words b scratch₀ output₀ n state₀ scratch output state = n - state .blocks
@@ -22,7 +22,7 @@ next-block-requires : tie.Need-next-block-requires Inv-loop μ-loop
 next-block-requires c κs =
     let at = c .before .before .before .before in
     let checked = at .before .before .before .pre in
-    (checked-on checked (at .loop .inv), omega (arith, checked .right .right-shape .count))
+    (checked-on checked (at .loop .inv), (omega (arith, checked .right .right-shape .count), at .loop .inv .sums))
 
 loop-less : tie.Need-loop-less Inv-loop μ-loop
 loop-less c =
@@ -34,26 +34,28 @@ loop-again c =
     let called = c .before .before .before in
     let at = called .before .before .before .before .before in
     let checked = at .before .before .before .pre in
-    rw (called .next-block .ensures .0)
-    (reached-more (at .loop .inv) (omega (arith, checked .right .right-shape .count)) (called .next-block .kept .1 .1 .1 .0) (called .next-block .kept .1 .1 .1 .1 .0)
-    (called .next-block .ensures .1 .0) (called .next-block .ensures .1 .1))
+    let made = called .next-block .ensures in
+    reached-more (at .loop .inv) (omega (arith, checked .right .right-shape .count)) (made .0) (called .next-block .kept .1 .1 .1 .0)
+    (called .next-block .kept .1 .1 .1 .1 .0) (made .1 .0) (made .1 .1 .0) (made .1 .1 .1)
 
 same-length : tie.Need-same-length Inv-loop μ-loop
 same-length c =
-    let at = c .before .before in
+    let at = c .before .before .before in
     at .loop .inv .scratch-kept ∙ sym (at .before .before .before .pre .scratch-size)
 
 same-length-2 : tie.Need-same-length-2 Inv-loop μ-loop
-same-length-2 c = c .before .before .loop .inv .output-kept
+same-length-2 c = c .before .before .before .loop .inv .output-kept
 
 returns : tie.Need-returns Inv-loop μ-loop
 returns c =
-    let at = c .before .before in
+    let at = c .before .before .before in
     let checked = at .before .before .before .pre in
     let all : at .loop .state .blocks ≡ blocks (at .before .before .before .args .words .now) =
     omega (arith, checked .right .right-shape .count, at .loop .inv .done) in
-    let reached = at .loop .inv in
-    (rw all at (reached .last-block (omega (arith, some-blocks (checked .right .right-shape)))), rw all at (reached .so-far))
+    let reached = at .loop .inv in (
+      rw all at (reached .sums),
+      (rw all at (reached .last-block (omega (arith, some-blocks (checked .right .right-shape)))), rw all at (reached .so-far)),
+    )
 
 pub all-blocks-spec : {M : Type 1} → statement M
 all-blocks-spec =

@@ -7,7 +7,9 @@ use lib.ListN.{length, length-set}
 use borrow.Author.Needs.{needs}
 use Rattle.words.specs.Word.{coefficient-head-kind, word}
 use Rattle.sheet_checks.specs.Check.{blocks}
+use Rattle.sheet_blocks.specs.Sums.{first-sum}
 use Rattle.sheet_blocks.proofs.Output.{head-written, end-written}
+use Rattle.sheet_blocks.proofs.Sums.{firsts-written}
 use Rattle.sheet_blocks.proofs.convert.Statement.{statement}
 use Rattle.sheet_blocks.proofs.convert.Tie as tie
 
@@ -31,10 +33,18 @@ returns c =
     let checked = start .pre in
     let words = start .args .words .now in
     let l = start .args .output .now in
-    let head = head-written (start .args .b) words l (omega arith) (headed .with-payload .ensures ∙ ap (word coefficient-head-kind) (headed .before .payload .ensures)) in (
-      called .all-blocks .ensures .0,
-      rw (called .all-blocks .ensures .1 .over-any l head)
-          (end-written (start .args .b) words l (blocks words) (length words - 1) (checked .right .right-shape .count) (checked .output-size) (omega arith)),
+    let made = called .all-blocks .ensures in
+    let head = head-written (start .args .b) words l (omega arith) (headed .with-payload .ensures ∙ ap (word coefficient-head-kind) (headed .before .payload .ensures)) in
+    let left = made .1 .1 .over-any l head in
+    let size = checked .right .right-shape .count in (
+      record {
+        of-samples = made .0 .of-samples;
+        of-firsts = made .0 .of-firsts ∙ ap (λ o. first-sum o (blocks words)) left ∙ firsts-written (start .args .b) words l (blocks words) (omega arith);
+      },
+      (
+        made .1 .0,
+        rw left (end-written (start .args .b) words l (blocks words) (length words - 1) size (checked .output-size) (omega arith)),
+      ),
     )
 
 pub convert-spec : {M : Type 1} → statement M

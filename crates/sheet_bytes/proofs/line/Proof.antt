@@ -2,7 +2,7 @@
 -- Assumes nothing.
 use borrow.Author.Needs.{needs}
 use Rattle.sheet_bytes.specs.Program.{refusal-line}
-use Rattle.sheet_bytes.proofs.Lines.{together, whole}
+use Rattle.text.proofs.Lines.{together, whole}
 use Rattle.sheet_bytes.proofs.line.Statement.{statement}
 use Rattle.sheet_bytes.proofs.line.Tie as tie
 

@@ -1,0 +1,64 @@
+// Text that is written part after part at the start of a buffer: fixed bytes, and whole numbers in decimal (01, "Sheets"; 02, request 5).
+ghost use mathlib.Core.Path.{_≡_};
+ghost use Prim.Native.Nat.{_+_, _≤_};
+ghost use lib.IntN.{natAbs};
+ghost use lib.ListN.{length};
+ghost use Rattle.integers.specs.Table.{over};
+ghost use Rattle.text.specs.Decimal.{decimal, signed-decimal};
+ghost use Rattle.text.specs.Parts.{Appended};
+
+// A text, written over the start of `output`.
+fn copy(text: &[u8], output: &mut [u8])
+    requires { ⌜ length (now text) ≤ length (now output) ⌝ }
+    ensures { λ r. ⌜ now (output .exit) ≡ over (now (text .entry)) (now (output .entry)) ⌝ }
+{
+    let mut i = 0;
+    while i < text.len() {
+        output[i] = text[i];
+        i += 1;
+    }
+}
+
+// A text, written from index `at` on, and where it ends.
+pub fn put(text: &[u8], output: &mut [u8], at: usize) -> usize
+    requires { ⌜ at + length (now text) ≤ length (now output) ⌝ }
+    ensures { λ r. ⌜ Appended (now (text .entry)) at (now (output .entry)) (now (output .exit)) r ⌝ }
+{
+    copy(text, &mut output[at..]);
+    at + text.len()
+}
+
+// A number in decimal, written from index `at` on, and where it ends: a number of 64 bits has at most 20 digits.
+pub fn put_decimal(n: u64, output: &mut [u8], at: usize) -> usize
+    requires { ⌜ at + 20 ≤ length (now output) ⌝ }
+    ensures { λ r. ⌜ Appended (decimal n) at (now (output .entry)) (now (output .exit)) r ⌝ }
+    ensures { λ r. ⌜ r ≤ at + 20 ⌝ }
+{
+    let mut text = [0u8; 20];
+    let k = io::decimal(n, &mut text);
+    put(&text[..k], output, at)
+}
+
+// The magnitude of x. That of -2^63 is 2^63, which no i64 holds.
+fn magnitude(x: i64) -> u64
+    ensures { λ r. ⌜ r ≡ natAbs x ⌝ }
+{
+    if x < 0 {
+        return (-1 - x) as u64 + 1;
+    }
+    x as u64
+}
+
+// A number in decimal with a minus sign below zero, written from index `at` on, and where it ends.
+pub fn put_signed(n: i64, output: &mut [u8], at: usize) -> usize
+    requires { ⌜ at + 21 ≤ length (now output) ⌝ }
+    ensures { λ r. ⌜ Appended (signed-decimal n) at (now (output .entry)) (now (output .exit)) r ⌝ }
+    ensures { λ r. ⌜ r ≤ at + 21 ⌝ }
+{
+    let digits = magnitude(n);
+    if n < 0 {
+        let after = put(b"-", output, at);
+        return put_decimal(digits, output, after);
+    }
+    put_decimal(digits, output, at)
+}
