@@ -38,7 +38,7 @@ int main(void) {
     elements[0] += 1;
     accepted(weld_dct_back(elements, WELD_DCT_COMPONENTS, again, WELD_DCT_PLACES), "one more in the first component");
 
-    samples[9] = 2048;
+    samples[9] = WELD_DCT_HIGHEST_SAMPLE + 1;
     struct weld_dct_answer answer = weld_dct_forward(samples, WELD_DCT_PLACES, elements, WELD_DCT_COMPONENTS);
     if (answer.number == WELD_DCT_REFUSED_SAMPLE) printf("sample %zu is out of range\n", answer.place);
     return 0;

@@ -28,11 +28,11 @@ extern "C" {
 #define WELD_DCT_COMPONENTS 512
 
 /* The lowest and the highest sample. */
-#define WELD_DCT_LOWEST_SAMPLE (-2048)
-#define WELD_DCT_HIGHEST_SAMPLE 2047
+#define WELD_DCT_LOWEST_SAMPLE (-32768)
+#define WELD_DCT_HIGHEST_SAMPLE 32767
 
-/* The magnitudes of an element's eight components may sum to at most this. */
-#define WELD_DCT_MAGNITUDES_LIMIT 262144
+/* The magnitudes of an element's eight components may sum to at most this: 128 times that of the lowest sample. */
+#define WELD_DCT_MAGNITUDES_LIMIT 4194304
 
 /* The widths b at which coefficients are rounded, as an initialiser. */
 #define WELD_DCT_WIDTHS {11, 20, 26}
@@ -127,7 +127,9 @@ struct weld_dct_answer weld_dct_back(const int32_t *elements, size_t n, int32_t 
  * elements: 512 numbers, laid out as forward writes them, a block's or others within the limit. coefficients: exactly 64, the one
  * of (u,v) at index 8u+v, which stands for eight times the DCT value. It is the whole number nearest to N / 2^(b+1), where N is
  * 2^b u_0 + m_1 u_1 + ... + m_7 u_7 and m_k is the whole number nearest to 2^b c_k; a half goes away from zero, so that elements with all
- * components negated give all coefficients negated. A coefficient is never further than 1/2 + 65,536/2^b from half of its element's exact value.
+ * components negated give all coefficients negated. A coefficient is never further than 1/2 + 1,048,576/2^b from half of its element's exact
+ * value, 1,048,576 being a quarter of WELD_DCT_MAGNITUDES_LIMIT, and never beyond WELD_DCT_COEFFICIENT_LIMIT
+ * in magnitude.
  * Refuses, in this order: WELD_DCT_REFUSED_LENGTHS, n not 512 or m not 64; WELD_DCT_REFUSED_WIDTH; WELD_DCT_REFUSED_MAGNITUDES. */
 struct weld_dct_answer weld_dct_round(const int32_t *elements, size_t n, uint32_t b, int32_t *coefficients, size_t m);
 

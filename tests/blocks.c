@@ -1,9 +1,10 @@
 /* Holds forward, back and rounding of the library to the second program, call by call: the answer, and every buffer with the guard numbers about it.
- * The elements are besides held to T.81's DCT values, and the coefficients to 01's distance from half of the elements' values. */
+ * The elements are besides held to T.81's DCT values, and the coefficients to the distance of rounding from half of the elements' values. */
 #include "weld_dct.h"
 #include "cases.h"
 #include <math.h>
 #include <stdio.h>
+#include <stdlib.h>
 #include <string.h>
 
 enum { FORWARD, BACK, ROUND, JOBS };
@@ -82,11 +83,11 @@ static void check_block(const int32_t *samples) {
     expect(memcmp(came, samples, BLOCK * sizeof samples[0]) == 0, "a block's set goes back to another block");
 }
 
-/* 01's worked examples, with the numbers that stand there. */
+/* 01's worked examples, as changed by requests 3 and 6, with the numbers that stand there, and others about the limits of request 6. */
 
 static void example_of_one_level(int32_t sample, int32_t u_0, int32_t coefficient) {
     int32_t samples[BLOCK], others = 0;
-    begin("01's example of all %d", (int)sample);
+    begin("example of all %d", (int)sample);
     for (int q = 0; q < BLOCK; q++) samples[q] = sample;
     check_block(samples);
     for (int n = 1; n < SET; n++) others += elements[n] != 0;
@@ -100,7 +101,7 @@ static void example_of_one_level(int32_t sample, int32_t u_0, int32_t coefficien
 static void example_of_one_sample(void) {
     static const struct { int p; int32_t u[8]; } expected[] = {{0, {2}}, {1, {0, 0, 0, 1, 0, 1}}, {9, {2, 0, 1}}, {15, {0, 0, 0, 0, 0, 0, 1}}};
     int32_t samples[BLOCK] = {1};
-    begin("01's example of one sample");
+    begin("example of one sample, 1");
     check_block(samples);
     for (size_t n = 0; n < COUNT(expected); n++)
         expect(memcmp(elements + 8 * expected[n].p, expected[n].u, sizeof expected[n].u) == 0, "the element at %d is another", expected[n].p);
@@ -108,37 +109,77 @@ static void example_of_one_sample(void) {
     expect(came[1] == 1 && came[9] == 2 && came[63] == 0, "the coefficients are %d, %d, %d", (int)came[1], (int)came[9], (int)came[63]);
 }
 
-/* one component alone, at (0,0): the answers of rounding and back, and the coefficient of an accepted one */
-static void example_of_one_component(int k, int32_t component, uint32_t b, uint32_t rounded, int32_t coefficient, uint32_t returned) {
+/* a sample at index 7, and the others 0 */
+static void example_of_range(int32_t sample, uint32_t number) {
+    int32_t samples[BLOCK] = {0};
+    begin("example of the sample %d", (int)sample);
+    samples[7] = sample;
+    Answer answer = check_forward(samples, BLOCK, SET);
+    expect(answer.number == number && answer.place == (number == 0 ? 0 : 7), "forward answers %u at %zu", (unsigned)answer.number, answer.place);
+    if (number == 0) check_block(samples);
+}
+
+/* one component alone, at (0,0): what round answers at b, and the coefficient of an accepted one */
+static void example_of_round(int k, int32_t component, uint32_t b, uint32_t number, int32_t coefficient) {
     int32_t set[SET] = {0};
-    begin("01's example of u_%d = %d, b = %u", k, (int)component, (unsigned)b);
+    begin("example of u_%d = %d, b = %u", k, (int)component, (unsigned)b);
     set[k] = component;
-    uint32_t number = round_number(set, b);
-    expect(number == rounded, "round answers %u", (unsigned)number);
-    expect(number != ACCEPTED || came[0] == coefficient, "the coefficient is %d, expected is %d", (int)came[0], (int)coefficient);
-    number = back_number(set);
-    expect(number == returned, "back answers %u", (unsigned)number);
+    uint32_t answer = round_number(set, b);
+    expect(answer == number, "round answers %u", (unsigned)answer);
+    expect(number != 0 || came[0] == coefficient, "the coefficient is %d, expected is %d", (int)came[0], (int)coefficient);
+}
+
+/* one component alone, at (0,0): what back answers, and of an accepted one the sample that is everywhere */
+static void example_of_back(int k, int32_t component, uint32_t number, int32_t sample) {
+    int32_t set[SET] = {0};
+    begin("example of u_%d = %d, back", k, (int)component);
+    set[k] = component;
+    uint32_t answer = back_number(set);
+    expect(answer == number, "back answers %u", (unsigned)answer);
+    for (int q = 0; number == 0 && q < BLOCK; q++) expect(came[q] == sample, "the sample at %d is %d, expected is %d", q, (int)came[q], (int)sample);
+}
+
+/* u_0 alone, which every width rounds alike: about the limits that 01 had before request 6, and about those that it has now */
+static void examples_of_u_0(void) {
+    static const struct { int32_t u_0; uint32_t rounded; int32_t coefficient; uint32_t back; int32_t sample; } examples[] = {{1, 0, 1, 5, 0},
+        {262144, 0, 131072, 0, 2048}, {-262144, 0, -131072, 0, -2048}, {262145, 0, 131073, 5, 0}, {-262145, 0, -131073, 5, 0},
+        {4194176, 0, 2097088, 0, 32767}, {4194304, 0, 2097152, 5, 0}, {-4194304, 0, -2097152, 0, -32768}, {4194305, 4, 0, 4, 0},
+        {-4194305, 4, 0, 4, 0}};
+    for (size_t n = 0; n < COUNT(examples); n++) {
+        for (int w = 0; w < WIDTHS; w++) example_of_round(0, examples[n].u_0, widths[w], examples[n].rounded, examples[n].coefficient);
+        example_of_back(0, examples[n].u_0, examples[n].back, examples[n].sample);
+    }
+}
+
+/* u_1 alone at the limit: the largest coefficients of accepted sets */
+static void examples_of_u_1(void) {
+    static const int32_t coefficients[WIDTHS] = {4113408, 4113712, 4113712};
+    for (int w = 0; w < WIDTHS; w++) {
+        example_of_round(1, 4194304, widths[w], 0, coefficients[w]);
+        example_of_round(1, -4194304, widths[w], 0, -coefficients[w]);
+    }
+    example_of_back(1, 4194304, 5, 0);
 }
 
 static void worked_examples(void) {
-    int32_t samples[BLOCK] = {0};
     example_of_one_level(1, 128, 64);
     example_of_one_level(-2048, -262144, -131072);
     example_of_one_level(2047, 262016, 131008);
+    example_of_one_level(-32768, -4194304, -2097152);
+    example_of_one_level(32767, 4194176, 2097088);
     example_of_one_sample();
-    example_of_one_component(2, 256, 11, 0, 237, 5);
-    example_of_one_component(2, -256, 11, 0, -237, 5); /* request 3 of 02 */
-    for (int w = 0; w < WIDTHS; w++) {
-        example_of_one_component(0, 262144, widths[w], 0, 131072, 5);
-        example_of_one_component(0, 262145, widths[w], 4, 0, 4);
-        example_of_one_component(0, 1, widths[w], 0, 1, 5);
-    }
-    for (int sign = 0; sign < 2; sign++) {
-        begin("01's example of a sample out of range");
-        samples[7] = sign ? -2049 : 2048;
-        Answer answer = check_forward(samples, BLOCK, SET);
-        expect(answer.number == 2 && answer.place == 7, "forward answers %u at %zu", (unsigned)answer.number, answer.place);
-    }
+    example_of_round(2, 256, 11, 0, 237);
+    example_of_round(2, -256, 11, 0, -237);
+    example_of_back(2, 256, 5, 0);
+    example_of_back(2, -256, 5, 0);
+    examples_of_u_0();
+    examples_of_u_1();
+    example_of_range(2048, 0);
+    example_of_range(-2049, 0);
+    example_of_range(32767, 0);
+    example_of_range(-32768, 0);
+    example_of_range(32768, 2);
+    example_of_range(-32769, 2);
 }
 
 /* Blocks. */
@@ -153,8 +194,9 @@ static void extremes(void) {
     }
 }
 
+/* the ends of the range, and numbers that have another value in 12, 13, 14 or 15 bits, each at every place */
 static void impulses(void) {
-    static const int32_t heights[] = {1, -1, HIGHEST, LOWEST};
+    static const int32_t heights[] = {1, -1, 2047, -2048, 2048, -2049, 4096, -4097, 8192, -8193, 16384, -16385, HIGHEST, LOWEST};
     int32_t samples[BLOCK] = {0};
     for (size_t n = 0; n < COUNT(heights) * BLOCK; n++) {
         size_t q = n / COUNT(heights);
@@ -167,7 +209,7 @@ static void impulses(void) {
 
 /* across, down and along the diagonal, up from the lowest sample and down from the highest */
 static void ramps(void) {
-    static const int32_t slopes[] = {1, 2, 3, 16, 37, 128, 255, 292};
+    static const int32_t slopes[] = {1, 2, 3, 16, 37, 128, 255, 292, 4095, (HIGHEST - LOWEST) / 14};
     int32_t samples[BLOCK];
     for (size_t n = 0; n < COUNT(slopes) * 6; n++) {
         int32_t slope = slopes[n / 6];
@@ -216,8 +258,8 @@ static void sums_of_sets(void) {
     for (int n = 0; n < 4000; n++) {
         begin("sum %d of two sets", n);
         for (int q = 0; q < BLOCK; q++) {
-            samples[q] = any(-1024, n % 2 ? 1023 : 1025);
-            others[q] = n % 4 < 2 ? samples[q] : any(-1024, 1023);
+            samples[q] = any(LOWEST / 2, HIGHEST / 2 + (n % 2 ? 0 : 32));
+            others[q] = n % 4 < 2 ? samples[q] : any(LOWEST / 2, HIGHEST / 2);
         }
         make_set(samples, set);
         make_set(others, added);
@@ -244,10 +286,25 @@ static void just_out_of_range(void) {
     }
 }
 
+/* one sample alone that is out of range: its set is so many times that of 1 */
+static void far_out_of_range(void) {
+    static const int32_t heights[] = {HIGHEST + 1, LOWEST - 1, 65536 + 5, -65536 + 5, 1 << 20};
+    int32_t set[SET];
+    for (size_t n = 0; n < COUNT(heights) * BLOCK; n++) {
+        int32_t samples[BLOCK] = {0}, height = heights[n % COUNT(heights)];
+        samples[n / COUNT(heights)] = 1;
+        begin("the set of %d alone at %zu", (int)height, n / COUNT(heights));
+        make_set(samples, set);
+        for (int k = 0; k < SET; k++) set[k] *= height;
+        expect(back_number(set) == NO_BLOCK, "a block out of range goes back");
+        round_at_all(set);
+    }
+}
+
 /* one component alone; 128 at (0,0), (0,4), (4,0) and (4,4) is a block's */
 static void single_components(void) {
-    static const int32_t numbers[] = {1, -1, 2, 64, 128, -128, 192, 256, 262016, 262144, -262144, 262145, -262145, 1 << 19, INT32_MAX, -INT32_MAX,
-        INT32_MIN};
+    static const int32_t numbers[] = {1, -1, 2, 64, 128, -128, 192, 256, 262016, 262144, -262144, 262145, -262145, MOST_MAGNITUDES - 128,
+        MOST_MAGNITUDES, -MOST_MAGNITUDES, MOST_MAGNITUDES + 1, -MOST_MAGNITUDES - 1, 1 << 23, INT32_MAX, -INT32_MAX, INT32_MIN};
     int32_t set[SET] = {0};
     for (size_t n = 0; n < COUNT(numbers) * SET; n++) {
         size_t k = n / COUNT(numbers);
@@ -260,17 +317,41 @@ static void single_components(void) {
     }
 }
 
+/* a set that is above the limit for the first time at p */
+static void check_above(const int32_t *set, size_t p, uint32_t b) {
+    Answer answer = check_back(set, SET, BLOCK), rounded = check_round(set, SET, b, BLOCK);
+    expect(answer.number == BAD_MAGNITUDES && answer.place == p, "the second program answers %u at %zu", (unsigned)answer.number, answer.place);
+    expect(rounded.number == BAD_MAGNITUDES && rounded.place == p, "round is not refused as back is");
+}
+
+/* elements at the limit, in every way to share it, 64 in a set; and one element above it by one, in each way */
+static void ways_to_share(void) {
+    int32_t set[SET];
+    for (int first = 0; first < WAYS_TO_SHARE; first += BLOCK) {
+        begin("elements at the limit, in the ways from %d on", first);
+        for (int p = 0; p < BLOCK; p++) share_equally(set + 8 * p, MOST_MAGNITUDES, (first + p) % WAYS_TO_SHARE);
+        round_at_all(set);
+        expect(back_number(set) == NO_BLOCK, "a set that is no block's goes back");
+    }
+    for (int n = 0; n < WAYS_TO_SHARE; n++) {
+        begin("an element above the limit by one, way %d", n);
+        make_faulty_set(set, n % 2);
+        share_equally(set + 8 * (n % BLOCK), MOST_MAGNITUDES + 1, n);
+        check_above(set, (size_t)n % BLOCK, widths[n % WIDTHS]);
+    }
+}
+
 /* sets that are no block's, with every element at the limit; and one element above it by one */
 static void sets_at_the_limit(void) {
     int32_t set[SET];
     for (int n = 0; n < 640; n++) {
         begin("set %d at the limit", n);
-        for (int p = 0; p < BLOCK; p++) share_out(set + 8 * p, MOST_MAGNITUDES);
+        make_set_at_limit(set);
         round_at_all(set);
         expect(back_number(set) == NO_BLOCK, "a set that is no block's goes back");
         begin("set %d above the limit by one at %d", n, n % BLOCK);
         share_out(set + 8 * (n % BLOCK), MOST_MAGNITUDES + 1);
-        expect(round_number(set, widths[n % WIDTHS]) == BAD_MAGNITUDES && back_number(set) == BAD_MAGNITUDES, "a set above the limit is accepted");
+        check_above(set, (size_t)n % BLOCK, widths[n % WIDTHS]);
     }
 }
 
@@ -286,14 +367,15 @@ static uint64_t inverse(uint64_t m) {
 /* an accepted element of any components whose N is a half, 2^b more than a multiple of 2^(b+1), or below one by so many */
 static void make_half(int32_t *u, uint32_t b, int64_t by) {
     int64_t one = (int64_t)2 << b, fitting;
+    int32_t most = MOST_MAGNITUDES / 16;
     int k = 1;
     while (table_number(k, b) % 2 == 0) k++;
     do {
-        for (int n = 0; n < 8; n++) u[n] = any(-999, 999);
+        for (int n = 0; n < 8; n++) u[n] = any(-most, most);
         u[k] = 0;
         fitting = (int64_t)(inverse((uint64_t)table_number(k, b)) * (uint64_t)(one / 2 - by - table_sum(u, b)) % (uint64_t)one);
         if (fitting >= one / 2) fitting -= one;
-    } while (fitting < -250000 || fitting > 250000);
+    } while (llabs(fitting) > MOST_MAGNITUDES - 7 * most);
     u[k] = (int32_t)fitting;
 }
 
@@ -374,9 +456,9 @@ static void lengths_above_32_bits(void) {
            "a refused call writes into a buffer");
 }
 
-/* a sample out of range at each place, alone and with others behind it: the lowest index is named */
+/* a sample out of range at each place, alone and with others behind it: the lowest index is named; some are near 0 again in 16 bits */
 static void samples_out_of_range(void) {
-    static const int32_t out[] = {HIGHEST + 1, LOWEST - 1, 4096, -4096, 65536 + 5, 1 << 24, INT32_MAX, INT32_MIN};
+    static const int32_t out[] = {HIGHEST + 1, LOWEST - 1, 2 * HIGHEST + 1, 2 * LOWEST, 65536 + 5, -65536 + 5, 1 << 24, INT32_MAX, INT32_MIN};
     int32_t samples[BLOCK];
     for (int n = 0; n < (int)COUNT(out) * 4 * BLOCK; n++) {
         int q = n % BLOCK, others = n / BLOCK % 4;
@@ -396,8 +478,7 @@ static void magnitudes_above_the_limit(void) {
         size_t p = (size_t)n % BLOCK;
         make_set_above(set, n);
         begin("element %zu is above the limit, set %d", p, n);
-        Answer answer = check_back(set, SET, BLOCK), rounded = check_round(set, SET, widths[n % WIDTHS], BLOCK);
-        expect(answer.number == BAD_MAGNITUDES && answer.place == p && rounded.place == p, "the second program has another answer");
+        check_above(set, p, widths[n % WIDTHS]);
     }
 }
 
@@ -436,7 +517,9 @@ int main(void) {
     units_away();
     sums_of_sets();
     just_out_of_range();
+    far_out_of_range();
     single_components();
+    ways_to_share();
     sets_at_the_limit();
     halves();
     forward_lengths();

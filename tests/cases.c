@@ -58,13 +58,13 @@ int32_t any(int32_t low, int32_t high) {
 typedef struct { int32_t level, slope_x, slope_y, height, noise; double x, y, width; } Film;
 
 static Film any_film(uint32_t a, uint32_t d) {
-    int32_t columns = 8 * (int32_t)a, rows = 8 * (int32_t)d;
+    int32_t columns = 8 * (int32_t)a, rows = 8 * (int32_t)d, most = HIGHEST >> any(0, 4);
     Film f;
-    f.level = any(-500, 500);
-    f.slope_x = any(-64, 64);
-    f.slope_y = any(-64, 64);
-    f.height = any(-1500, 1500);
-    f.noise = any(0, 3);
+    f.level = any(-most / 4, most / 4);
+    f.slope_x = any(-most / 32, most / 32);
+    f.slope_y = any(-most / 32, most / 32);
+    f.height = any(-most / 4 * 3, most / 4 * 3);
+    f.noise = any(0, most / 512);
     f.x = any(0, columns);
     f.y = any(0, rows);
     f.width = any(1, 8 + columns / 4);
@@ -103,6 +103,25 @@ void share_out(int32_t *u, int32_t total) {
     }
 }
 
+/* the signs are the digits of n + 1 in base 3 */
+void share_equally(int32_t *u, int32_t total, int n) {
+    static const int32_t signs[] = {0, 1, -1};
+    int32_t left = 0;
+    for (int k = 0, digits = n + 1; k < 8; k++, digits /= 3) {
+        u[k] = signs[digits % 3];
+        left += u[k] != 0;
+    }
+    for (int k = 0; k < 8; k++) {
+        int32_t part = u[k] == 0 ? 0 : total / left--;
+        u[k] *= part;
+        total -= part;
+    }
+}
+
+void make_set_at_limit(int32_t *set) {
+    for (int p = 0; p < BLOCK; p++) share_out(set + 8 * p, MOST_MAGNITUDES);
+}
+
 void make_faulty_set(int32_t *set, int n) {
     int32_t samples[BLOCK];
     make_samples(samples, 1, 1, SMOOTH);
@@ -114,8 +133,10 @@ void make_faulty_set(int32_t *set, int n) {
 }
 
 void make_set_above(int32_t *set, int n) {
-    static const int32_t above[WAYS_ABOVE][8] = {{262145}, {-262145}, {32768, 32768, -32768, 32768, 32768, -32768, 32768, 32769},
-        {0, 131072, 0, 0, 0, 0, 1, -131072}, {0, 0, 0, 0, 0, 0, 0, INT32_MIN}, {INT32_MIN, 1, 1, 1, 1, 1, 1, 1}, {INT32_MIN, INT32_MIN},
+    enum { HALF = MOST_MAGNITUDES / 2, EIGHTH = MOST_MAGNITUDES / 8 };
+    static const int32_t above[WAYS_ABOVE][8] = {{MOST_MAGNITUDES + 1}, {-MOST_MAGNITUDES - 1},
+        {EIGHTH, EIGHTH, -EIGHTH, EIGHTH, EIGHTH, -EIGHTH, EIGHTH, EIGHTH + 1}, {0, HALF, 0, 0, 0, 0, 1, -HALF}, {MOST_MAGNITUDES, -MOST_MAGNITUDES},
+        {0, 0, 1 << 23, 0, -(1 << 23)}, {0, 0, 0, 0, 0, 0, 0, INT32_MIN}, {INT32_MIN, 1, 1, 1, 1, 1, 1, 1}, {INT32_MIN, INT32_MIN},
         {INT32_MAX, INT32_MAX, 2}, {1 << 30, 1 << 30, 1 << 30, 1 << 30}};
     int p = n % BLOCK, others = n / BLOCK % 3;
     make_faulty_set(set, others % 2);

@@ -19,23 +19,30 @@ void expect_answer(const char *job, Answer wanted, uint32_t number, size_t place
 /* A number from low to high. */
 int32_t any(int32_t low, int32_t high);
 
-/* The samples of a by d blocks, in the order of a sheet. A ramp is a slope; a smooth film is a bead over a slope, with noise of a few grey levels. */
+/* The samples of a by d blocks, in the order of a sheet. A ramp is a slope; a smooth film is a bead over a slope, with a little noise. Both use 12 to
+ * 16 bits. */
 enum pattern { ANY, EXTREMES, RAMP, SMOOTH, PATTERNS };
 void make_samples(int32_t *samples, uint32_t a, uint32_t d, enum pattern pattern);
 
 /* The block whose coefficient at p is the highest of all, or the lowest. */
 void make_extreme(int32_t *samples, int p, int lowest);
 
-/* The numbers of one element, with magnitudes that sum to the total, shared out at random. */
+/* The numbers of one element, with magnitudes that sum to the total: shared out at random; or as equal as they can be, for each n below WAYS_TO_SHARE
+ * with other signs, every component above 0, below 0 or 0, but not all 0. */
+enum { WAYS_TO_SHARE = 6560 }; /* 3^8 - 1 */
 void share_out(int32_t *u, int32_t total);
+void share_equally(int32_t *u, int32_t total, int n);
+
+/* A set with every element at the limit, shared out at random. */
+void make_set_at_limit(int32_t *set);
 
 /* A set with causes of its own, for each n below FAULTY_SETS: none, no block's, above the limit at one place or at two. */
 enum { FAULTY_SETS = 5 };
 void make_faulty_set(int32_t *set, int n);
 
 /* A set whose first element above the limit is n % BLOCK, for each n below SETS_ABOVE: alone and with others behind it; among the sums are some
- * that are small again in 32 bits. */
-enum { WAYS_ABOVE = 9, SETS_ABOVE = WAYS_ABOVE * 3 * BLOCK };
+ * that are small again in 23, 24 or 32 bits. */
+enum { WAYS_ABOVE = 11, SETS_ABOVE = WAYS_ABOVE * 3 * BLOCK };
 void make_set_above(int32_t *set, int n);
 
 /* A b that is no width, for each n below NO_WIDTHS: every such b below 64, and large ones, among them some that are a width in fewer bits. */

@@ -135,7 +135,8 @@ static void worked_examples(void) {
     static const struct { int32_t coefficient; uint32_t over_8, over_64; } examples[] = {{0, 0, 0}, {1, 0x3E000000, 0x3C800000},
         {-1, 0xBE000000, 0xBC800000}, {8, 0x3F800000, 0x3E000000}, {64, 0x41000000, 0x3F800000}, {-64, 0xC1000000, 0xBF800000},
         {237, 0x41ED0000, 0x406D0000}, {-237, 0xC1ED0000, 0xC06D0000}, {131008, 0x467FE000, 0x44FFE000}, {-131072, 0xC6800000, 0xC5000000},
-        {2097152, 0x48800000, 0x47000000}, {4194302, 0x48FFFFF8, 0x477FFFF8}, {4194303, 0x48FFFFFC, 0x477FFFFC}, {-4194303, 0xC8FFFFFC, 0xC77FFFFC}};
+        {2097088, 0x487FFE00, 0x46FFFE00}, {2097152, 0x48800000, 0x47000000}, {-2097152, 0xC8800000, 0xC7000000}, {4113712, 0x48FB14C0, 0x477B14C0},
+        {4194302, 0x48FFFFF8, 0x477FFFF8}, {4194303, 0x48FFFFFC, 0x477FFFFC}, {-4194303, 0xC8FFFFFC, 0xC77FFFFC}};
     for (size_t n = 0; n < COUNT(examples) * BLOCK; n++) {
         size_t p = n % BLOCK, e = n / BLOCK;
         uint32_t over_8 = examples[e].over_8, over_64 = examples[e].over_64, wanted[BLOCK] = {0};
@@ -235,6 +236,18 @@ static void rounded_blocks(void) {
         check_block(coefficients);
         for (int q = 0; q < BLOCK; q++) sum += samples[q];
         check_float(summary.mean, sum, 64);
+    }
+}
+
+/* what round writes for sets at the limit, which are no block's: nothing of it is beyond the limit of coefficients */
+static void rounded_sets(void) {
+    int32_t set[SET], coefficients[BLOCK];
+    for (int n = 0; n < 600; n++) {
+        uint32_t b = widths[n % WIDTHS];
+        begin("set %d at the limit, b = %u", n, (unsigned)b);
+        make_set_at_limit(set);
+        expect(weld_dct_round(set, SET, b, coefficients, BLOCK).number == ACCEPTED, "round refuses an accepted set");
+        check_block(coefficients);
     }
 }
 
@@ -502,6 +515,7 @@ int main(void) {
     ties();
     long_ties();
     rounded_blocks();
+    rounded_sets();
     random_blocks();
     lengths();
     lengths_above_32_bits();

@@ -154,7 +154,7 @@ static void sets_at_the_limit(void) {
     int32_t set[SET];
     for (int n = 0; n < 4 * BLOCK; n++) {
         begin("pairs on set %d at the limit", n);
-        for (int p = 0; p < BLOCK; p++) share_out(set + 8 * p, MOST_MAGNITUDES);
+        make_set_at_limit(set);
         check_pairs(set);
         begin("set %d above the limit by one at %d", n, n % BLOCK);
         share_out(set + 8 * (n % BLOCK), MOST_MAGNITUDES + 1);
@@ -177,8 +177,8 @@ static void check_component(int k, int32_t component) {
 }
 
 static void single_components(void) {
-    static const int32_t within[] = {1, -1, 128, MOST_MAGNITUDES, -MOST_MAGNITUDES};
-    static const int32_t above[] = {MOST_MAGNITUDES + 1, -MOST_MAGNITUDES - 1, 1 << 19, INT32_MAX, -INT32_MAX, INT32_MIN};
+    static const int32_t within[] = {1, -1, 128, 262145, -262145, MOST_MAGNITUDES, -MOST_MAGNITUDES};
+    static const int32_t above[] = {MOST_MAGNITUDES + 1, -MOST_MAGNITUDES - 1, 1 << 23, INT32_MAX, -INT32_MAX, INT32_MIN};
     for (int k = 0; k < SET; k++) {
         for (size_t n = 0; n < COUNT(within); n++) {
             begin("%d alone at number %d", (int)within[n], k);

@@ -261,6 +261,20 @@ static void rounded_blocks(void) {
     }
 }
 
+/* what round writes for sets at the limit, which are no block's: nothing of it is beyond the limit of coefficients */
+static void rounded_sets(void) {
+    uint32_t steps[BLOCK];
+    int32_t set[SET], coefficients[BLOCK], quantized[BLOCK], back[BLOCK];
+    for (int n = 0; n < 600; n++) {
+        uint32_t b = widths[n % WIDTHS];
+        begin("set %d at the limit, b = %u", n, (unsigned)b);
+        make_set_at_limit(set);
+        expect(weld_dct_round(set, SET, b, coefficients, BLOCK).number == ACCEPTED, "round refuses an accepted set");
+        make_steps(steps);
+        check_both_ways(coefficients, steps, quantized, back);
+    }
+}
+
 static void random_calls(void) {
     uint32_t steps[BLOCK];
     int32_t coefficients[BLOCK], quantized[BLOCK], back[BLOCK];
@@ -396,6 +410,7 @@ int main(void) {
     coefficients_at_the_limit();
     values_at_the_limit();
     rounded_blocks();
+    rounded_sets();
     random_calls();
     lengths();
     lengths_above_32_bits();

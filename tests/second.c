@@ -3,6 +3,9 @@
 #include <stdlib.h>
 #include <string.h>
 
+/* Request 6 has these figures; they all follow from the lowest sample. */
+_Static_assert(HIGHEST == 32767 && MOST_MAGNITUDES == 4194304 && DISTANCE == 1048576, "request 6 has other figures");
+
 /* One component of a product of two cosines, and how often it stands there. */
 typedef struct { int component, times; } Term;
 
@@ -239,7 +242,7 @@ static int32_t coefficient(const int32_t *u, uint32_t b) { return nearest(table_
 
 /* Both sides are exact to far less than the 10^-9 that is allowed for long double. */
 int within_distance(int64_t y, long double eighths, uint32_t b) {
-    return fabsl((long double)y - eighths) <= 0.5L + ldexpl(65536, -(int)b) + 1e-9L;
+    return fabsl((long double)y - eighths) <= 0.5L + ldexpl(DISTANCE, -(int)b) + 1e-9L;
 }
 
 Answer second_round(const int32_t *elements, size_t n, uint32_t b, int32_t *coefficients, size_t m) {

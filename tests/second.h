@@ -7,10 +7,12 @@
 #include <stddef.h>
 #include <stdint.h>
 
-/* 01's numbers, and 02's. */
-enum { BLOCK = 64, SET = 512 };          /* the numbers of a block, and of its 64 elements */
-enum { LOWEST = -2048, HIGHEST = 2047 }; /* samples */
-enum { MOST_MAGNITUDES = 262144, MOST_BLOCKS = 128 };
+/* 01's numbers, as changed by 02, and 02's. */
+enum { BLOCK = 64, SET = 512 };                  /* the numbers of a block, and of its 64 elements */
+enum { LOWEST = -32768, HIGHEST = -LOWEST - 1 }; /* samples */
+enum { MOST_MAGNITUDES = 2 * BLOCK * -LOWEST };  /* those of a block of the lowest sample alone, at (0,0) */
+enum { DISTANCE = MOST_MAGNITUDES / 4 };         /* of rounding: 1/2 and, over 2^b, this */
+enum { MOST_BLOCKS = 128 };
 enum { SAMPLE_HEAD = 1, SAMPLE = 2, COEFFICIENT = 3, COEFFICIENT_HEAD = 4, END = 15 }; /* kinds of words */
 enum { ORIENTATIONS = 8 };
 enum { MOST_STEP = 1024, MOST_COEFFICIENT = 4194303, MOST_DEQUANTIZED = 4198399 };
@@ -54,7 +56,7 @@ long double element_value(const int32_t *u);
 int64_t table_sum(const int32_t *u, uint32_t b);
 int64_t table_number(int k, uint32_t b);
 
-/* Whether y is no further than 01's distance, 1/2 + 65,536/2^b, from the eighths. */
+/* Whether y is no further than the distance of rounding from the eighths. */
 int within_distance(int64_t y, long double eighths, uint32_t b);
 
 /* Words. */

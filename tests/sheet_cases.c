@@ -6,9 +6,9 @@ static const uint32_t some_counts[] = {1, 2, 3, 128}; /* of blocks */
 
 /* Making sheets. */
 
-/* a coefficient near 2,049 times the sample: the highest sample goes up to the limit */
+/* a coefficient near so many times the sample that the highest goes up to the limit */
 static int32_t spread(int32_t sample) {
-    int32_t y = 2049 * sample + any(-1024, 1024);
+    int32_t times = MOST_COEFFICIENT / HIGHEST, y = times * sample + any(-times, times);
     return y < -MOST_COEFFICIENT ? -MOST_COEFFICIENT : y > MOST_COEFFICIENT ? MOST_COEFFICIENT : y;
 }
 
@@ -119,12 +119,16 @@ static void largest(void) {
         }
 }
 
+/* every sample in range, out of order, in as many sheets as that takes */
 static void every_sample(void) {
+    uint32_t samples = HIGHEST - LOWEST + 1, each = MOST_BLOCKS * BLOCK;
     Sheet sheet;
-    begin("every sample in range, b = %u", (unsigned)job->b);
-    make_column(&sheet, 64);
-    for (size_t n = 0; n < 4096; n++) sheet.words[1 + n] = make_word(SAMPLE, (int64_t)(n * 1371 % 4096) + LOWEST);
-    check_accepted(&sheet);
+    make_column(&sheet, MOST_BLOCKS);
+    for (uint32_t first = 0; first < samples; first += each) {
+        begin("every sample in range, from %u on, b = %u", (unsigned)first, (unsigned)job->b);
+        for (uint32_t n = 0; n < each; n++) sheet.words[1 + n] = make_word(SAMPLE, (int64_t)((first + n) * 21931 % samples) + LOWEST);
+        check_accepted(&sheet);
+    }
 }
 
 /* for each place the block whose coefficient there is the highest of all, and the one whose is the lowest */
@@ -218,9 +222,10 @@ static void kinds(void) {
     }
 }
 
-/* values about the limits, at the ends of the payload, and in range again in fewer bits; and the end word's number */
+/* values about the limits, at the ends of the payload, and in range again in fewer bits; samples that 01 refused, before request 6; and the end
+ * word's number */
 static void values(void) {
-    int32_t lowest = job->format->lowest, highest = job->format->highest, within[] = {highest, lowest, 0, -1};
+    int32_t lowest = job->format->lowest, highest = job->format->highest, within[] = {highest, lowest, 0, -1, 2048, -2049};
     int32_t out[] = {highest + 1, lowest - 1, highest + 2, 2 * highest + 1, 2 * highest + 2, 2 * lowest, (1 << 24) + 5, (1 << 24) - 5, (1 << 27) - 1,
         -(1 << 27), 1 << 26, -(1 << 26)};
     uint32_t body_kind = job->format->body, cause = job->format->cause;

@@ -155,10 +155,12 @@ static void negatives(void) {
 }
 
 /* Sums that are known beforehand, to which the second program is held, too: that of 01's sheet of ones, 0, the lowest and the highest of one block
- * and of the most, and others. Samples are as equal as they can be, or mixed. */
+ * and of the most, and others, among them some that are no 32-bit floats. Samples are as equal as they can be, or mixed. */
 static void known_sums(void) {
-    static const struct { uint32_t blocks; int32_t sum; } cases[] = {{1, 64}, {1, 0}, {MOST_BLOCKS, 0}, {1, -131072}, {1, 131008},
-        {MOST_BLOCKS, -16777216}, {MOST_BLOCKS, 16769024}, {1, -1}, {1, 1}, {2, -1}, {2, 1}, {3, -1000}, {3, 1000}, {127, -9999999}, {127, 9999999}};
+    static const struct { uint32_t blocks; int32_t sum; } cases[] = {{1, 64}, {1, 0}, {MOST_BLOCKS, 0}, {1, -2097152}, {1, 2097088},
+        {MOST_BLOCKS, -268435456}, {MOST_BLOCKS, 268427264}, {MOST_BLOCKS, -268435455}, {MOST_BLOCKS, 268427263}, {1, -1}, {1, 1}, {2, -1}, {2, 1},
+        {3, -1000}, {3, 1000}, {1, -131072}, {1, 131008}, {127, -9999999}, {127, 9999999}, {MOST_BLOCKS, -16777216}, {MOST_BLOCKS, 16769024},
+        {9, -16777217}, {9, 16777217}, {127, -99999999}, {127, 99999999}, {MOST_BLOCKS, -134217729}, {MOST_BLOCKS, 134217729}};
     Sheet sheet;
     for (int n = 0; n < (int)COUNT(cases) * WIDTHS * 2; n++) {
         uint32_t blocks = cases[n / WIDTHS / 2].blocks, b = widths[n / 2 % WIDTHS];

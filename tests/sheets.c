@@ -337,7 +337,8 @@ static void independent_blocks(void) {
 }
 
 /* Sums that are known beforehand, and the line of each, which has the digits that are written here: 0, the least and the greatest of each count of
- * digits with both signs, and the lowest and the highest of all. Samples are as equal as they can be, or mixed. */
+ * digits with both signs, the lowest and the highest of all and those of 12 bits, and some that are no 32-bit floats. Samples are as equal as they can
+ * be, or mixed. */
 
 #define WITH_LINE(sum) {sum, "SUM " #sum " " #sum "\n"}
 #define WITH_LINES(sum) WITH_LINE(sum), WITH_LINE(-sum)
@@ -345,7 +346,9 @@ static void independent_blocks(void) {
 static void known_sums(void) {
     static const struct { int32_t sum; const char *line; } cases[] = {WITH_LINE(0), WITH_LINES(1), WITH_LINES(9), WITH_LINES(10), WITH_LINES(99),
         WITH_LINES(100), WITH_LINES(999), WITH_LINES(1000), WITH_LINES(9999), WITH_LINES(10000), WITH_LINES(99999), WITH_LINES(100000),
-        WITH_LINES(999999), WITH_LINES(1000000), WITH_LINES(9999999), WITH_LINES(10000000), WITH_LINE(-16777216), WITH_LINE(16769024)};
+        WITH_LINES(999999), WITH_LINES(1000000), WITH_LINES(9999999), WITH_LINES(10000000), WITH_LINES(99999999), WITH_LINES(100000000),
+        WITH_LINE(-16777216), WITH_LINE(16769024), WITH_LINES(16777217), WITH_LINES(134217729), WITH_LINE(-268435456), WITH_LINE(-268435455),
+        WITH_LINE(268427264), WITH_LINE(268427263)};
     static const int32_t counts[] = {1, 2, MOST_BLOCKS};
     static Bytes input, wanted;
     Sheet sheet;

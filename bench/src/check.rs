@@ -5,8 +5,11 @@ use crate::{doubles, jpeg};
 use std::array::from_fn;
 use weld_dct::{
     Range, Refusal, Summary, Transformed, COEFFICIENT_LIMIT, COMPONENTS, DEQUANTIZED_LIMIT,
-    HIGHEST_SAMPLE, MAGNITUDES_LIMIT, ORIENTATIONS, PLACES, STEP_LIMIT, WIDTHS,
+    HIGHEST_SAMPLE, LOWEST_SAMPLE, MAGNITUDES_LIMIT, ORIENTATIONS, PLACES, STEP_LIMIT, WIDTHS,
 };
+
+/// How far a coefficient at 26 may lie from eight times the DCT value.
+pub const DISTANCE: f64 = 0.5 + (MAGNITUDES_LIMIT / 4) as f64 / (1 << 26) as f64;
 
 type Outcome = Result<(), String>;
 
@@ -92,6 +95,25 @@ fn altered_sets(elements: &Elements) -> Vec<Elements> {
         .collect()
 }
 
+/// A set with every element at the limit, in one of its components in turn, of both signs.
+fn set_at_limit() -> Elements {
+    let limit = MAGNITUDES_LIMIT as i32;
+    from_fn(|i| match (i / 8 % 8 == i % 8, i / 64 % 2) {
+        (true, 0) => limit,
+        (true, _) => -limit,
+        _ => 0,
+    })
+}
+
+/// Blocks of the lowest and of the highest sample, each alone, and in turn.
+fn extreme_blocks() -> [Samples; 3] {
+    [
+        [LOWEST_SAMPLE; PLACES],
+        [HIGHEST_SAMPLE; PLACES],
+        from_fn(|n| [LOWEST_SAMPLE, HIGHEST_SAMPLE][(n / 8 + n) % 2]),
+    ]
+}
+
 /// Numbers with one at a limit or beyond it, on either way, among them one that is 0 again times 8 in 32 bits.
 fn altered_numbers(numbers: &Samples) -> [Samples; 6] {
     let most = DEQUANTIZED_LIMIT / 8;
@@ -106,32 +128,37 @@ fn altered_numbers(numbers: &Samples) -> [Samples; 6] {
     .map(|to| altered(numbers, 9, to))
 }
 
-/// Forward and back of others equal the library's, for every block, for one out of range, and for altered sets.
+/// Forward and back of others equal the library's, for every block, for extreme ones, for one out of range, for altered
+/// sets and for one at the limit.
 fn ways(others: Ways, given: &Given) -> Outcome {
     let differs = format!("{} differs from the library", others.name);
     let mut outside = given.blocks[0];
     outside[9] = HIGHEST_SAMPLE + 1;
-    for samples in given.blocks.iter().chain([&outside]) {
+    let extreme = extreme_blocks();
+    for samples in given.blocks.iter().chain(&extreme).chain([&outside]) {
         expect(
             both_ways(LIBRARY.ways, samples) == both_ways(others, samples),
             &differs,
         )?;
     }
-    for set in altered_sets(&given.sets[0]) {
-        let back = |ways: Ways| (ways.back)(&set, &mut [0; PLACES]);
+    let (altered, at_limit) = (altered_sets(&given.sets[0]), set_at_limit());
+    for set in altered.iter().chain([&at_limit]) {
+        let back = |ways: Ways| (ways.back)(set, &mut [0; PLACES]);
         expect(back(LIBRARY.ways) == back(others), &differs)?;
     }
     Ok(())
 }
 
-/// The library's round or reorient, and plain Rust's, are equal by each of the numbers, for every set and for altered ones.
+/// The library's round or reorient, and plain Rust's, are equal by each of the numbers, for every set, for altered ones
+/// and for one at the limit.
 fn sets<const N: usize>(
     [one, other]: [ByNumber; 2],
     numbers: impl IntoIterator<Item = u32>,
     given: &Given,
 ) -> Outcome {
+    let (altered, at_limit) = (altered_sets(&given.sets[0]), set_at_limit());
     for number in numbers {
-        for set in given.sets.iter().chain(&altered_sets(&given.sets[0])) {
+        for set in given.sets.iter().chain(&altered).chain([&at_limit]) {
             expect(
                 of_set::<N>(one, set, number) == of_set::<N>(other, set, number),
                 "plain Rust rounds or reorients otherwise than the library",
@@ -192,7 +219,7 @@ fn faulty(sheets: &[Vec<u32>], word: u32) -> [Vec<u32>; 2] {
 
 /// The library's sheets and ranges, and plain Rust's, are equal for all sheets and for faulty ones.
 fn sheets(given: &Given) -> Outcome {
-    let others = faulty(&given.sheets, 2 << 28 | 2048);
+    let others = faulty(&given.sheets, 2 << 28 | (HIGHEST_SAMPLE + 1) as u32);
     for b in WIDTHS {
         for words in given.sheets.iter().chain(&others) {
             expect(
@@ -201,7 +228,8 @@ fn sheets(given: &Given) -> Outcome {
             )?;
         }
     }
-    let others = faulty(&given.coefficient_sheets, 3 << 28 | 1 << 22);
+    let beyond = (COEFFICIENT_LIMIT + 1) as u32;
+    let others = faulty(&given.coefficient_sheets, 3 << 28 | beyond);
     for words in given.coefficient_sheets.iter().chain(&others) {
         expect(
             of_range(LIBRARY, words) == of_range(PLAIN, words),
@@ -228,7 +256,7 @@ pub fn exact(given: &Given) -> Outcome {
 /// Eight times the DCT values in doubles lie no further from the library's coefficients at 26 than these promise, and
 /// give the block back.
 pub fn doubles(given: &Given) -> Outcome {
-    let most = 0.5 + 65536.0 / f64::from(1 << 26) + 1e-6;
+    let most = DISTANCE + 1e-6;
     for (samples, made) in given.blocks.iter().zip(&given.coefficients) {
         let eighths = doubles::forward(samples);
         let near = |(x, y): (&f64, &i32)| (x - f64::from(*y)).abs() <= most;

@@ -1,10 +1,16 @@
 //! What every side is given: blocks, half of them random and half smooth with a little grain, their exact elements,
 //! coefficients and quantized values, and sheets of samples and of coefficients.
 use std::array::from_fn;
-use weld_dct::{forward, quantize, round, sheet_words, Refusal, BLOCKS_LIMIT, COMPONENTS, PLACES};
+use weld_dct::{
+    forward, quantize, round, sheet_words, Refusal, BLOCKS_LIMIT, COMPONENTS, HIGHEST_SAMPLE,
+    PLACES,
+};
 
 /// The blocks that are given.
 pub const BLOCKS: usize = 256;
+
+/// The bits that a sample may have, sign included.
+pub const SAMPLE_BITS: u32 = 1 + i32::BITS - HIGHEST_SAMPLE.leading_zeros();
 
 /// 64 samples.
 pub type Samples = [i32; PLACES];

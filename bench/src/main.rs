@@ -19,7 +19,8 @@ mod sides;
 mod tables;
 mod timing;
 
-use inputs::{Given, BLOCKS};
+use check::DISTANCE;
+use inputs::{Given, BLOCKS, SAMPLE_BITS};
 use jobs::{LIBRARY, PLAIN};
 use std::time::Duration;
 use std::{env, process};
@@ -46,13 +47,13 @@ fn stop(code: i32, what: &str) -> ! {
 
 /// Checks and times, in about one and a half times so many seconds.
 fn run(seconds: u64) -> Result<(), String> {
-    let (given, small) = (Given::new(12)?, Given::new(8)?);
+    let (given, small) = (Given::new(SAMPLE_BITS)?, Given::new(8)?);
     check::exact(&given)?;
     check::doubles(&given)?;
     check::jpeg(&small)?;
-    println!("{BLOCKS} blocks, in turn random and smooth, of 12-bit samples; release, opt-level 3, baseline x86-64.");
+    println!("{BLOCKS} blocks, in turn random and smooth, of {SAMPLE_BITS}-bit samples; release, opt-level 3, baseline x86-64.");
     println!("Checked first: plain Rust and the dense passes equal the library to the number, and doubles are within");
-    println!("1/2 + 1/1024 of its coefficients at 26. {}", about_jpeg());
+    println!("{DISTANCE} of its coefficients at 26. {}", about_jpeg());
     let mut sides = sides::all(&given, &small);
     let (times, rounds) = timing::take(&mut sides, Duration::from_secs(seconds));
     tables::print_times(&times, rounds);
@@ -73,7 +74,7 @@ fn about_jpeg() -> &'static str {
 
 /// What `instructions` counts.
 fn run_passes(side: &str, count: &str) -> Result<(), String> {
-    let given = Given::new(12)?;
+    let given = Given::new(SAMPLE_BITS)?;
     let count = count.parse().map_err(|_| "no count of passes")?;
     let mut sides = LIBRARY.sides(&given);
     sides.extend(PLAIN.sides(&given));

@@ -1,5 +1,5 @@
 //! Takes a block forward, rounds it and takes it back, and shows how a refusal comes. examples/block.c does the same.
-use weld_dct::{back, forward, round, Refusal, COMPONENTS, PLACES};
+use weld_dct::{back, forward, round, Refusal, COMPONENTS, HIGHEST_SAMPLE, PLACES};
 
 fn main() -> Result<(), Refusal> {
     // A slope with a curve in it: the sample of row i, column j is 40·i² - 25·i·j - 300.
@@ -32,7 +32,7 @@ fn main() -> Result<(), Refusal> {
     if let Err(refusal) = back(&elements, &mut again) {
         println!("one more in the first component: {refusal}");
     }
-    samples[9] = 2048;
+    samples[9] = HIGHEST_SAMPLE + 1;
     match forward(&samples, &mut elements) {
         Err(Refusal::Sample(index)) => println!("sample {index} is out of range"),
         other => other?,

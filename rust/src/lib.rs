@@ -25,13 +25,13 @@ pub const PLACES: usize = 64;
 pub const COMPONENTS: usize = 512;
 
 /// The lowest sample.
-pub const LOWEST_SAMPLE: i32 = -2048;
+pub const LOWEST_SAMPLE: i32 = -32_768;
 
 /// The highest sample.
-pub const HIGHEST_SAMPLE: i32 = 2047;
+pub const HIGHEST_SAMPLE: i32 = 32_767;
 
-/// What the magnitudes of an element's eight components may sum to.
-pub const MAGNITUDES_LIMIT: u32 = 262_144;
+/// What the magnitudes of an element's eight components may sum to: 128 times that of the lowest sample.
+pub const MAGNITUDES_LIMIT: u32 = 4_194_304;
 
 /// The blocks that a sheet may have.
 pub const BLOCKS_LIMIT: usize = 128;
@@ -337,10 +337,10 @@ impl RangeAnswer {
 ///
 /// In this order, and `elements` is then as it was:
 /// - [`Refusal::Lengths`]: `samples` has not 64 numbers or `elements` not 512;
-/// - [`Refusal::Sample`]: a sample is not from -2048 to 2047.
+/// - [`Refusal::Sample`]: a sample is not from [`LOWEST_SAMPLE`] to [`HIGHEST_SAMPLE`].
 ///
 /// ```
-/// use weld_dct::{forward, Refusal, COMPONENTS, PLACES};
+/// use weld_dct::{forward, Refusal, COMPONENTS, HIGHEST_SAMPLE, PLACES};
 ///
 /// let mut elements = [0; COMPONENTS];
 /// let mut samples = [0; PLACES];
@@ -348,7 +348,7 @@ impl RangeAnswer {
 /// forward(&samples, &mut elements)?;
 /// assert_eq!(elements[8..16], [0, 0, 0, 1, 0, 1, 0, 0]); // c_3 + c_5
 ///
-/// samples[9] = 2048;
+/// samples[9] = HIGHEST_SAMPLE + 1;
 /// assert_eq!(forward(&samples, &mut elements), Err(Refusal::Sample(9)));
 /// # Ok::<(), Refusal>(())
 /// ```
@@ -368,7 +368,7 @@ pub fn forward(samples: &[i32], elements: &mut [i32]) -> Result<(), Refusal> {
 ///
 /// In this order, and `samples` is then as it was:
 /// - [`Refusal::Lengths`]: `elements` has not 512 numbers or `samples` not 64;
-/// - [`Refusal::Magnitudes`]: the magnitudes of an element's eight components sum above 262,144;
+/// - [`Refusal::Magnitudes`]: the magnitudes of an element's eight components sum above [`MAGNITUDES_LIMIT`];
 /// - [`Refusal::NoBlock`]: no block in range has these elements.
 ///
 /// ```
@@ -397,14 +397,15 @@ pub fn back(elements: &[i32], samples: &mut [i32]) -> Result<(), Refusal> {
 /// which stands for eight times the DCT value, is written at index 8u+v of `coefficients`. It is the whole number
 /// nearest to N / 2^(b+1), where N is 2^b·u_0 + m_1·u_1 + ... + m_7·u_7 and m_k is the whole number nearest to 2^b·c_k; a
 /// half goes away from zero, so that elements with all components negated give all coefficients negated. A coefficient
-/// is never further than 1/2 + 65,536/2^b from half of its element's exact value.
+/// is never further than 1/2 + 1,048,576/2^b from half of its element's exact value, 1,048,576 being a quarter of
+/// [`MAGNITUDES_LIMIT`], and never beyond [`COEFFICIENT_LIMIT`] in magnitude.
 ///
 /// # Errors
 ///
 /// In this order, and `coefficients` is then as it was:
 /// - [`Refusal::Lengths`]: `elements` has not 512 numbers or `coefficients` not 64;
 /// - [`Refusal::Width`]: b is not 11, 20 or 26;
-/// - [`Refusal::Magnitudes`]: the magnitudes of an element's eight components sum above 262,144.
+/// - [`Refusal::Magnitudes`]: the magnitudes of an element's eight components sum above [`MAGNITUDES_LIMIT`].
 ///
 /// ```
 /// use weld_dct::{round, Refusal, COMPONENTS, PLACES};
@@ -440,7 +441,7 @@ pub fn round(elements: &[i32], b: u32, coefficients: &mut [i32]) -> Result<(), R
 /// In this order, and `output` is then as it was:
 /// - [`Refusal::Lengths`]: `elements` or `output` has not 512 numbers;
 /// - [`Refusal::Orientation`]: the orientation is above 7;
-/// - [`Refusal::Magnitudes`]: the magnitudes of an element's eight components sum above 262,144.
+/// - [`Refusal::Magnitudes`]: the magnitudes of an element's eight components sum above [`MAGNITUDES_LIMIT`].
 ///
 /// ```
 /// use weld_dct::{forward, reorient, Refusal, COMPONENTS, PLACES};
@@ -576,7 +577,7 @@ pub fn dequantize(
 /// - [`Refusal::Coefficient`]: a coefficient is beyond 4,194,303 in magnitude.
 ///
 /// ```
-/// use weld_dct::{to_floats, Refusal, PLACES};
+/// use weld_dct::{to_floats, Refusal, COEFFICIENT_LIMIT, PLACES};
 ///
 /// let mut coefficients = [0; PLACES];
 /// (coefficients[0], coefficients[9]) = (64, -237);
@@ -584,7 +585,7 @@ pub fn dequantize(
 /// to_floats(&coefficients, &mut floats)?;
 /// assert_eq!((floats[0], floats[9]), (8.0, -29.625));
 ///
-/// coefficients[5] = 4_194_304;
+/// coefficients[5] = COEFFICIENT_LIMIT + 1;
 /// assert_eq!(to_floats(&coefficients, &mut floats), Err(Refusal::Coefficient(5)));
 /// # Ok::<(), Refusal>(())
 /// ```

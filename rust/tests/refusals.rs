@@ -26,6 +26,11 @@ fn sample_word(x: i32) -> u32 {
     SAMPLE | x as u32 & 0x0FFF_FFFF
 }
 
+/// A sample in range, for each n from 0 to 63.
+fn any_sample(n: i32) -> i32 {
+    n * n * 1021 % (HIGHEST_SAMPLE - LOWEST_SAMPLE + 1) + LOWEST_SAMPLE
+}
+
 /// A word of a coefficient.
 fn coefficient_word(y: i32) -> u32 {
     COEFFICIENT | y as u32 & 0x0FFF_FFFF
@@ -276,10 +281,59 @@ fn sheet_names_the_first_faulty_word() {
     sheet_refuses(&words, 11, (512, 66), (Refusal::End(65), 8, 65));
     words[65] = SAMPLE;
     sheet_refuses(&words, 11, (512, 66), (Refusal::Words(65), 7, 65));
-    words[64] = SAMPLE | 0x0FFF_F7FF; // -2049
+    words[64] = sample_word(LOWEST_SAMPLE - 1);
     sheet_refuses(&words, 11, (512, 66), (Refusal::Sample(64), 2, 64));
-    words[40] = 0x3000_0800; // of another kind, and out of range
+    words[40] = coefficient_word(HIGHEST_SAMPLE + 1); // of another kind, and out of range
     sheet_refuses(&words, 11, (512, 66), (Refusal::Words(40), 7, 40));
+}
+
+/// Elements that are 0, but for u_0 at (0,0).
+fn u_0(component: i32) -> [i32; COMPONENTS] {
+    let mut elements = [0; COMPONENTS];
+    elements[0] = component;
+    elements
+}
+
+/// 01's examples, as changed by request 6, and both ends of its range.
+#[test]
+fn forward_and_back_have_samples_of_16_bits() {
+    for sample in [2047, -2048, 2048, -2049, 32_767, -32_768] {
+        let (mut elements, mut again) = ([0; COMPONENTS], [0; PLACES]);
+        assert_eq!(forward(&[sample; PLACES], &mut elements), Ok(()));
+        assert_eq!(elements, u_0(128 * sample));
+        assert_eq!(back(&elements, &mut again), Ok(()));
+        assert_eq!(again, [sample; PLACES]);
+    }
+    for sample in [32_768, -32_769] {
+        forward_refuses(&[sample; PLACES], 512, (Refusal::Sample(0), 2, 0));
+    }
+    for component in [262_145, 4_194_304] {
+        back_refuses(&u_0(component), PLACES, (Refusal::NoBlock, 5, 0));
+    }
+    for component in [4_194_305, -4_194_305] {
+        back_refuses(&u_0(component), PLACES, (Refusal::Magnitudes(0), 4, 0));
+    }
+}
+
+/// 01's examples, as changed by request 6, and both ends of what round accepts.
+#[test]
+fn round_has_elements_of_samples_of_16_bits() {
+    for b in WIDTHS {
+        for (component, coefficient) in [
+            (262_144, 131_072),
+            (262_145, 131_073),
+            (4_194_304, 2_097_152),
+            (-4_194_304, -2_097_152),
+        ] {
+            let mut coefficients = [0; PLACES];
+            assert_eq!(round(&u_0(component), b, &mut coefficients), Ok(()));
+            assert_eq!(coefficients[0], coefficient);
+        }
+        for component in [4_194_305, -4_194_305] {
+            let expected = (Refusal::Magnitudes(0), 4, 0);
+            set_refuses(round, &u_0(component), b, PLACES, expected);
+        }
+    }
 }
 
 /// What sheet returns of so many words, with samples of this sum.
@@ -293,7 +347,7 @@ fn transformed(words: usize, sum: i64) -> Result<Transformed, Refusal> {
 
 #[test]
 fn accepted_calls_write_what_they_promise_and_no_more() {
-    let mut samples: Vec<i32> = (0..64).map(|n| n * 61 - 1900).collect();
+    let mut samples: Vec<i32> = (0..64).map(any_sample).collect();
     (samples[0], samples[63]) = (LOWEST_SAMPLE, HIGHEST_SAMPLE);
     let mut words = one_block();
     for (word, sample) in words[1..].iter_mut().zip(&samples) {
@@ -327,9 +381,11 @@ fn the_two_sums_of_a_sheet_are_those_of_its_samples() {
         (2, [highest, -highest], 0),
         (3, [-7, 5], -192),
         (3, [7, -5], 192),
+        (128, [-2048, -2048], -16_777_216),
+        (128, [2047, 2047], 16_769_024),
         (128, [lowest, highest], -4096),
-        (128, [lowest, lowest], -16_777_216),
-        (128, [highest, highest], 16_769_024),
+        (128, [lowest, lowest], -268_435_456),
+        (128, [highest, highest], 268_427_264),
     ] {
         let body = in_turn.map(sample_word).repeat(32 * blocks as usize);
         let (head, end) = (SAMPLE_HEAD - 1 + blocks, END - 1 + blocks);
@@ -367,7 +423,7 @@ fn reoriented_set(elements: &[i32], orientation: u32) -> Vec<i32> {
 
 #[test]
 fn a_blocks_reoriented_elements_are_those_of_the_reoriented_block() {
-    let samples: Vec<i32> = (0..64).map(|n| n * n * 37 % 4096 - 2048).collect();
+    let samples: Vec<i32> = (0..64).map(any_sample).collect();
     let elements = |samples: &[i32]| {
         let mut elements = vec![0; COMPONENTS];
         assert_eq!(forward(samples, &mut elements), Ok(()));
@@ -382,7 +438,8 @@ fn a_blocks_reoriented_elements_are_those_of_the_reoriented_block() {
 #[test]
 fn one_orientation_followed_by_another_is_the_composed_one() {
     let numbered: Vec<i32> = (0..64).collect();
-    let set: Vec<i32> = (0..512).map(|n| n * n * 31 % 65536 - 32768).collect(); // no block's
+    let most = MAGNITUDES_LIMIT as i32 / 8;
+    let set: Vec<i32> = (0..512).map(|n| n * n * 31 % (2 * most) - most).collect(); // no block's
     for (first, second) in (0..64).map(|n| (n / 8, n % 8)) {
         let composed = compose_orientations(first, second).unwrap();
         assert_eq!(
@@ -484,7 +541,7 @@ fn the_range_of_a_sheet_goes_over_all_its_blocks() {
 fn the_range_of_what_sheet_writes_is_that_of_its_floats() {
     let mut words = one_block();
     for (n, word) in (0..64).zip(&mut words[1..]) {
-        *word = sample_word(n * n * 37 % 4096 - 2048);
+        *word = sample_word(any_sample(n));
     }
     let (mut scratch, mut output, mut coefficients) = ([0; COMPONENTS], [0; 66], [0; PLACES]);
     assert!(sheet(&words, 26, &mut scratch, &mut output).is_ok());

@@ -52,7 +52,7 @@ eight-frequencies x j u = eight-step (λ i. integer (column x j i)) (λ i h. eig
 pub samples-small : {d : ℕ} {x : List ℤ} → AllInRange d x → Bounded d sample-limit (sample x)
 samples-small {d} {x} range q h = in-range-small (sample-limit - 1) (sample x q) (range .at q h)
 
--- "the magnitudes of an element's eight components sum to at most 262,144"
+-- "the magnitudes of an element's eight components sum to at most" the limit
 pub magnitudes-of : (d : ℕ) (x : List ℤ) → AllInRange (suc d) x → (p : ℕ) → p < places-in (suc d)
     → magnitudes (element-at (elements-of (suc d) x) p) ≤ magnitudes-limit-in sample-limit (suc d)
 magnitudes-of d x range p h =

@@ -1,15 +1,17 @@
--- The figures that 01 names for a sample limit of 2,048 and blocks of two dimensions, as the functions give them, and figures of 02.
+-- The figures that the papers name, as the definitions give them.
 -- Assumes nothing.
 use mathlib.Core.Path.{_≡_, refl}
-use Rattle.limits.specs.Limits.{places-in, components-in, magnitudes-limit-in, halvings-in, distance-numerator-in, dequantized-limit}
+use Rattle.limits.specs.Limits.{places, components-size, sample-limit, magnitudes-limit, halvings, distance-numerator, dequantized-limit}
+use Rattle.limits.specs.Limits.{magnitudes-limit-in, halvings-in, distance-numerator-in}
 
-pub figures : (places-in 2 ≡ 64) × (components-in 2 ≡ 512) × (magnitudes-limit-in 2048 2 ≡ 262144) × (halvings-in 2 ≡ 1) × (distance-numerator-in 2048 2 ≡ 65536)
+-- in force: those of 01, as changed by request 6 of 02
+pub figures : (places ≡ 64) × (components-size ≡ 512) × (magnitudes-limit ≡ 4194304) × (halvings ≡ 1) × (distance-numerator ≡ 1048576)
 figures = (refl, refl, refl, refl, refl)
 
--- and those of 02 for 32,768, in two dimensions and in three
-pub later-figures : (magnitudes-limit-in 32768 2 ≡ 4194304) × (distance-numerator-in 32768 2 ≡ 1048576)
-    × (magnitudes-limit-in 32768 3 ≡ 67108864) × (halvings-in 3 ≡ 3) × (distance-numerator-in 32768 3 ≡ 4194304)
-later-figures = (refl, refl, refl, refl, refl)
+-- 01's for its own range, and those of 02 for three dimensions
+pub other-figures : (magnitudes-limit-in 2048 2 ≡ 262144) × (distance-numerator-in 2048 2 ≡ 65536)
+    × (magnitudes-limit-in sample-limit 3 ≡ 67108864) × (halvings-in 3 ≡ 3) × (distance-numerator-in sample-limit 3 ≡ 4194304)
+other-figures = (refl, refl, refl, refl, refl)
 
 -- and that of dequantized coefficients
 pub dequantized-figure : dequantized-limit ≡ 4198399

@@ -31,15 +31,15 @@ in-signed-range S x = leZ (negℤ (pos S)) x && ltZ x (pos S)
 
 -- what is in force
 
--- the largest magnitude of a sample, which lies in -2048 to 2047
+-- the largest magnitude of a sample, which lies in -32,768 to 32,767 (02, request 6)
 abbrev pub sample-limit : ℕ
-sample-limit = 2048
+sample-limit = 32768
 
 -- a sample is in range
 abbrev pub in-range : ℤ → Bool
 in-range x = in-signed-range sample-limit x
 
--- blocks of 8 by 8: 64 places, 512 components, magnitudes that sum to at most 262,144, half of an element, a distance of 1/2 + 65,536/2^b
+-- blocks of 8 by 8; `figures` has what each comes to
 
 abbrev pub places : ℕ
 places = places-in 2

@@ -7,7 +7,7 @@ pub const PLACES: usize = 64;
 pub const COMPONENTS: usize = 8 * PLACES;
 
 // The largest magnitude of a sample.
-const SAMPLE_LIMIT: i32 = 2048;
+const SAMPLE_LIMIT: i32 = 32768;
 
 // The range of samples.
 pub const LOWEST_SAMPLE: i32 = -SAMPLE_LIMIT;

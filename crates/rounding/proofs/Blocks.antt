@@ -11,7 +11,7 @@ use lib.IntN.{ℤ, pos, _*ℤ_, natAbs, *ℤ-comm, *ℤ-zero}
 use lib.ListN.{length, getD}
 use borrow.Author.Tests.{ne-eqb}
 use Rattle.integers.proofs.Tables.{getD-table}
-use Rattle.limits.specs.Limits.{places, components-size, magnitudes-limit}
+use Rattle.limits.specs.Limits.{places, components-size, magnitudes-limit, coefficient-limit}
 use Rattle.ring.specs.Element.{component}
 use Rattle.rounding_error.specs.Width.{numerator}
 use Rattle.rounding_error.proofs.Coefficient.{coefficient-whole, numerator-whole}
@@ -58,9 +58,9 @@ pub refused-leaves : (e : List ℤ) (b : ℕ) (c : List ℤ) → accepted (round
 unfolding round-coefficients
 refused-leaves e b c = causes.refused-leaves (round-returned 2 e b c) (coefficients-of 2 b e) c
 
--- how large a coefficient gets
+-- how large a coefficient gets: none is beyond the limit of those that come in from outside
 pub coefficient-size : {e : List ℤ} (b : ℕ) → AcceptedSet places magnitudes-limit e → T (width b) → (p : ℕ) → p < places
-    → natAbs (getD (coefficients-of 2 b e) p (pos 0)) ≤ magnitudes-limit
+    → natAbs (getD (coefficients-of 2 b e) p (pos 0)) ≤ coefficient-limit
 coefficient-size {e} b S w p h =
     rw (getD-table places (coefficient-at 2 b e) (pos 0) p h)
     (coefficient-small (sized (record { at-width = w; are-numbers = refl; in-limit = S .in-limit p h })))

@@ -1,16 +1,17 @@
--- What calls leave, in 02's words (request 3): halves away from zero; and, of two calls, that a negative mirrors its positive.
+-- What calls leave, in 02's words (request 3): halves away from zero; and, of two calls, that a negative mirrors its positive. And that no coefficient is
+-- too large for the jobs that take coefficients.
 -- Assumes nothing.
 use mathlib.Core.Path.{_≡_, sym, ap, _∙_}
 use mathlib.Core.List.{List}
-use Prim.Native.Nat.{ℕ, _+_, _^_, _<_}
+use Prim.Native.Nat.{ℕ, _+_, _^_, _≤_, _<_}
 use lib.Dec.{T, lit<}
-use lib.IntN.{ℤ, pos}
+use lib.IntN.{ℤ, pos, natAbs}
 use lib.ListN.{length, getD}
 use mir.Syntax.{w32}
 use mir.Val.{SFits}
 use Rattle.integers.specs.Nearest.{Rounded, Away}
 use Rattle.integers.proofs.Tables.{getD-table}
-use Rattle.limits.specs.Limits.{places, places-in, components-size, halvings, halvings-in}
+use Rattle.limits.specs.Limits.{places, places-in, components-size, coefficient-limit, halvings, halvings-in}
 use Rattle.ring.specs.Element.{negate}
 use Rattle.ring.proofs.Components.{negate-table}
 use Rattle.rounding_error.specs.Width.{numerator, coefficient}
@@ -21,7 +22,7 @@ use Rattle.answers.proofs.Causes.{accepted-leaves}
 use Rattle.element_sets.proofs.Negated.{element-negated, set-negated, negated-fits}
 use Rattle.rounding.specs.Rounding.{coefficient-at, coefficients-of, round-returned, round-coefficients}
 use Rattle.rounding.specs.Tables.{table-numbers}
-use Rattle.rounding.proofs.Blocks.{accepts, accepted-ready}
+use Rattle.rounding.proofs.Blocks.{accepts, accepted-ready, coefficient-size}
 
 module _ (e : List ℤ) (b : ℕ) (c : List ℤ) (h : T (accepted (round-returned 2 e b c))) where
   left : round-coefficients 2 e b c ≡ coefficients-of 2 b e
@@ -42,6 +43,10 @@ module _ (e : List ℤ) (b : ℕ) (c : List ℤ) (h : T (accepted (round-returne
     -- and no other number is so
     pub only-place : {y : ℤ} → Rounded Away N (2 ^ (b + halvings)) y → y ≡ getD (round-coefficients 2 e b c) p (pos 0)
     only-place R = only-coefficient halvings b (table-numbers b) (element-at e p) R ∙ sym coefficient-place
+
+    -- it is within the limit of coefficients that come in from outside
+    pub limit-place : natAbs (getD (round-coefficients 2 e b c) p (pos 0)) ≤ coefficient-limit
+    limit-place = let R = accepted-ready e b c h in rw left (coefficient-size b (R .ready-set) (R .ready-width) p l)
 
 -- a set and the set with all components negated
 

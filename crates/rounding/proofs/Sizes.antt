@@ -5,7 +5,7 @@ use mathlib.Core.List.{List}
 use Prim.Native.Nat.{ℕ, zero, suc, _+_, _*_, _^_, _≤_, _<_}
 use native.Mathlib.Nat.{zero-add, le-refl, le-trans, lt-of-le-of-lt, mul-add, mul-le-mul, mul-le-mul-left, mul-le-mul-right}
 use native.Mathlib.Omega.{arith}
-use lib.Dec.{lit<}
+use lib.Dec.{T, lit<}
 use lib.IntN.{ℤ, pos, _+ℤ_, _*ℤ_, natAbs, +ℤ-assoc, +ℤ-idr}
 use lib.Pow.{pow-mono, pow-pos}
 use mir.Syntax.{w32}
@@ -15,11 +15,12 @@ use Rattle.integers.proofs.Magnitudes.{natAbs-add, natAbs-mul, small-fits}
 use Rattle.integers.proofs.Nearest.{nearest-small}
 use Rattle.ring.specs.Element.{component, magnitudes}
 use Rattle.ring.proofs.Magnitude.{sizes, sizes-le, component-le}
-use Rattle.limits.specs.Limits.{magnitudes-limit, halvings}
+use Rattle.limits.specs.Limits.{magnitudes-limit, coefficient-limit, halvings}
 use Rattle.rounding_error.specs.Width.{numerator, coefficient}
 use Rattle.rounding_error.proofs.Coefficient.{coefficient-rounded}
 use Rattle.rounding.specs.Preconditions.{Allowed}
-use Rattle.rounding.proofs.Tables.{number-small, width-small}
+use Rattle.rounding.specs.Tables.{width}
+use Rattle.rounding.proofs.Tables.{first-number, at-most-first, first-bounds, number-small, width-small}
 
 -- the numerator, summed from the front
 
@@ -49,14 +50,16 @@ largest = 2 ^ 27 * magnitudes-limit
 
 pub record Sized (b : ℕ) (m u : List ℤ) : Type 0 where
   pub width-bound : b ≤ 26
-  pub number-bound : (k : ℕ) → k < 7 → natAbs (component m k) ≤ 2 ^ (b + 1)
+  pub at-width : T (width b)
+  pub number-bound : (k : ℕ) → k < 7 → natAbs (component m k) ≤ first-number b
   pub magnitudes-bound : magnitudes u ≤ magnitudes-limit
 
 pub sized : {b : ℕ} {m u : List ℤ} → Allowed b m u → Sized b m u
 sized {b} A =
     record {
       width-bound = width-small b (A .at-width);
-      number-bound = λ k h. rw (A .are-numbers) (number-small b (A .at-width) k h);
+      at-width = A .at-width;
+      number-bound = λ k h. rw (A .are-numbers) (at-most-first b (A .at-width) k h);
       magnitudes-bound = A .in-limit;
     }
 
@@ -64,19 +67,19 @@ product-le : (x y : ℤ) {P : ℕ} → natAbs x ≤ P → natAbs (x *ℤ y) ≤ 
 product-le x y h = rw (natAbs-mul x y) (mul-le-mul-right (natAbs y) h)
 
 module _ {b : ℕ} {m u : List ℤ} (B : Sized b m u) where
-  power-le : 2 ^ (b + 1) ≤ 2 ^ 27
-  power-le = let h : b + 1 ≤ 27 = omega (arith, B .width-bound) in pow-mono h
+  first-le : first-number b ≤ 2 ^ 27
+  first-le = let h : b + 1 ≤ 27 = omega (arith, B .width-bound) in le-trans (number-small b (B .at-width) 0 (lit< tt)) (pow-mono h)
 
-  -- 2^(b+1) times the magnitudes of the first n components, which no sum of n terms exceeds
-  scaled-sizes-le : (n : ℕ) → 2 ^ (b + 1) * sizes u n ≤ largest
-  scaled-sizes-le n = mul-le-mul power-le (le-trans (sizes-le n u) (B .magnitudes-bound))
+  -- m_1 times the magnitudes of the first n components, which no sum of n terms exceeds
+  scaled-sizes-le : (n : ℕ) → first-number b * sizes u n ≤ largest
+  scaled-sizes-le n = mul-le-mul first-le (le-trans (sizes-le n u) (B .magnitudes-bound))
 
-  term-le : (k : ℕ) → k < 7 → natAbs (component m k *ℤ component u (suc k)) ≤ 2 ^ (b + 1) * natAbs (component u (suc k))
+  term-le : (k : ℕ) → k < 7 → natAbs (component m k *ℤ component u (suc k)) ≤ first-number b * natAbs (component u (suc k))
   term-le k h = product-le (component m k) (component u (suc k)) (B .number-bound k h)
 
-  partial-le : (n : ℕ) → n ≤ 7 → natAbs (partial b m u n) ≤ 2 ^ (b + 1) * sizes u (suc n)
+  partial-le : (n : ℕ) → n ≤ 7 → natAbs (partial b m u n) ≤ first-number b * sizes u (suc n)
   unfolding sum
-  partial-le zero h = rw (partial-none b m u, zero-add) (product-le (pos (2 ^ b)) (component u 0) (pow-mono (omega arith)))
+  partial-le zero h = rw (partial-none b m u, zero-add) (product-le (pos (2 ^ b)) (component u 0) (first-bounds b (B .at-width) .0))
   partial-le (suc n) h =
       rw (partial-more b m u n, mul-add)
       (omega (arith, natAbs-add (partial b m u n) (component m n *ℤ component u (suc n)), partial-le n (omega arith), term-le n (omega arith)))
@@ -86,22 +89,24 @@ module _ {b : ℕ} {m u : List ℤ} (B : Sized b m u) where
 
   pub term-small : (k : ℕ) → k < 7 → natAbs (component m k *ℤ component u (suc k)) ≤ largest
   unfolding sum
-  term-small k h = le-trans (term-le k h) (le-trans (mul-le-mul-left (2 ^ (b + 1)) (omega arith)) (scaled-sizes-le (suc (suc k))))
+  term-small k h = le-trans (term-le k h) (le-trans (mul-le-mul-left (first-number b) (omega arith)) (scaled-sizes-le (suc (suc k))))
 
   pub component-small : (k : ℕ) → natAbs (component u k) ≤ magnitudes-limit
   component-small k = le-trans (component-le u k) (B .magnitudes-bound)
 
   pub number-less : (k : ℕ) → k < 7 → natAbs (component m k) ≤ 2 ^ 27
-  number-less k h = le-trans (B .number-bound k h) power-le
+  number-less k h = le-trans (B .number-bound k h) first-le
 
-  numerator-le : natAbs (numerator b m u) ≤ 2 ^ (b + 1) * magnitudes-limit
+  numerator-le : natAbs (numerator b m u) ≤ first-number b * magnitudes-limit
   numerator-le =
       le-trans (rw (partial-all b m u) at (partial-le 7 (le-refl 7)))
-      (mul-le-mul-left (2 ^ (b + 1)) (le-trans (sizes-le 8 u) (B .magnitudes-bound)))
+      (mul-le-mul-left (first-number b) (le-trans (sizes-le 8 u) (B .magnitudes-bound)))
 
-  -- so the coefficient, as any number nearest to N/2^(b+1), is at most the limit
-  pub coefficient-small : natAbs (coefficient halvings b m u) ≤ magnitudes-limit
-  coefficient-small = nearest-small magnitudes-limit (pow-pos (b + halvings)) numerator-le (coefficient-rounded halvings b m u .nearest)
+  -- so the coefficient, as any number nearest to N/2^(b+1), is one that quantization takes
+  pub coefficient-small : natAbs (coefficient halvings b m u) ≤ coefficient-limit
+  coefficient-small =
+      nearest-small coefficient-limit (pow-pos (b + halvings)) (le-trans numerator-le (first-bounds b (B .at-width) .1))
+      (coefficient-rounded halvings b m u .nearest)
 
   pub coefficient-fits : SFits w32 (coefficient halvings b m u)
   coefficient-fits = small-fits w32 (coefficient halvings b m u) (lt-of-le-of-lt coefficient-small (lit< tt))

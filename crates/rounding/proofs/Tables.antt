@@ -1,16 +1,17 @@
--- The table numbers of the three widths obey 01's rule, which is one computed test.
+-- The table numbers of the three widths obey 01's rule, which is one computed test; and m_1 is the largest of them.
 -- Assumes nothing.
 use mathlib.Core.Path.{_≡_, refl}
 use mathlib.Core.Logic.{⊎-elim}
 use mathlib.Core.Bool.{Bool, _||_}
-use Prim.Native.Nat.{ℕ, suc, _+_, _^_, _≤_, _<_}
+use Prim.Native.Nat.{ℕ, suc, _+_, _*_, _^_, _≤_, _<_}
 use native.Mathlib.Nat.{zero-lt-suc}
-use lib.Dec.{T, eqb, lit≤}
+use lib.Dec.{T, eqb, leb, leb→le, lit≤}
 use lib.IntN.{natAbs}
 use mir.Facts.{or-yes, eqb-yes}
 use Rattle.integers.specs.Test.{every}
 use Rattle.integers.proofs.Tests.{every-at}
 use Rattle.ring.specs.Element.{component}
+use Rattle.limits.specs.Limits.{magnitudes-limit, coefficient-limit}
 use Rattle.rounding_error.specs.Root.{root}
 use Rattle.rounding_error.specs.Width.{table-number, TableAt}
 use Rattle.rounding_error.proofs.Tables.{number-small as small}
@@ -42,6 +43,25 @@ tables b w = record { numbers = λ k h. every-at 7 (right b) (all-right b w) k h
 -- so it is at most 2^(b+1)
 pub number-small : (b : ℕ) → T (width b) → (k : ℕ) → k < 7 → natAbs (component (table-numbers b) k) ≤ 2 ^ (b + 1)
 number-small b w k h = small b (suc k) (zero-lt-suc k) h (component (table-numbers b) k) (tables b w .numbers k h)
+
+-- m_1, and the test that it is the largest of the seven
+abbrev pub first-number : ℕ → ℕ
+first-number b = natAbs (component (table-numbers b) 0)
+
+no-larger : ℕ → ℕ → Bool
+no-larger b k = leb (natAbs (component (table-numbers b) k)) (first-number b)
+
+pub at-most-first : (b : ℕ) → T (width b) → (k : ℕ) → k < 7 → natAbs (component (table-numbers b) k) ≤ first-number b
+unfolding no-larger table-numbers
+at-most-first b w k h =
+    leb→le (natAbs (component (table-numbers b) k)) (first-number b) (every-at 7 (no-larger b) (by-width (λ b. T (every 7 (no-larger b))) tt tt tt b w) k h)
+
+-- it is at least 2^b, and so far below 2^(b+1) that no coefficient of an accepted set is beyond the limit of coefficients
+pub first-bounds : (b : ℕ) → T (width b) → (2 ^ b ≤ first-number b) × (first-number b * magnitudes-limit ≤ 2 ^ (b + 1) * coefficient-limit)
+unfolding table-numbers
+first-bounds =
+    by-width (λ b. (2 ^ b ≤ first-number b) × (first-number b * magnitudes-limit ≤ 2 ^ (b + 1) * coefficient-limit))
+    (lit≤ tt, lit≤ tt) (lit≤ tt, lit≤ tt) (lit≤ tt, lit≤ tt)
 
 pub width-small : (b : ℕ) → T (width b) → b ≤ 26
 width-small = by-width (λ b. b ≤ 26) (lit≤ tt) (lit≤ tt) (lit≤ tt)

@@ -38,7 +38,7 @@ coefficients-of d b elements = table (places-in d) (coefficient-at d b elements)
 unfoldable pub round-coefficients : ℕ → List ℤ → ℕ → List ℤ → List ℤ
 round-coefficients d elements b coefficients = written (round-returned d elements b coefficients) (coefficients-of d b elements) coefficients
 
--- each of the coefficients lies within the promised distance of its part of the element's value: for d = 2, 1/2 + 65,536/2^b of half of it
+-- each of the coefficients lies within the promised distance of its part of the element's value: for d = 2, of half of it
 pub record AllNear (d : ℕ) (elements : List ℤ) (b : ℕ) (coefficients : List ℤ) : Type 0 where
   pub near : (p : ℕ) → p < places-in d
       → Near (halvings-in d) (getD coefficients p (pos 0)) (element-at elements p) (distance (distance-numerator-in sample-limit d) b)

@@ -1,11 +1,10 @@
 // Rounding at a width (01, "Rounding at a width"): 64 elements become 64 coefficients in eighths.
 //
-// `round` takes any buffers and any b. An accepted call leaves the formula's 64 numbers, each within 1/2 + 65,536/2^b of half of its
-// element's value; a refused one leaves the buffer as it was, and names the first cause.
+// `round` takes any buffers and any b. An accepted call leaves the formula's 64 numbers, each within the promised distance (`AllNear`) of half
+// of its element's value; a refused one leaves the buffer as it was, and names the first cause.
 //
-// 64 bits suffice: a table number is at most 2^(b+1) (`number-small`), so that N is at most 2^(b+1) times the sum of the element's
-// magnitudes. In an accepted set that sum is at most 2^18, and b is at most 26: no sum or product here is above 2^46. In 32 bits the
-// products would wrap at b = 20.
+// 64 bits suffice: no table number is above 2^(b+1), nor b above 26, so that N and its terms are at most 2^27 times the limit of the magnitudes
+// (`largest`), which is 2^49. In 32 bits the products would wrap at each b.
 ghost use mathlib.Core.Path.{_≡_};
 ghost use mathlib.Core.Bool.{false};
 ghost use Prim.Native.Nat.{_^_, _<_};

@@ -4,7 +4,7 @@ use mathlib.Core.Path.{_≡_, sym, ap, ap₂, _∙_}
 use mathlib.Core.Bool.{false}
 use mathlib.Core.List.{List}
 use Prim.Native.Nat.{ℕ, suc, _+_, _-_, _*_, _/_, _%_, _≤_, _<_}
-use native.Mathlib.Nat.{le-trans, div-add-mod, mod-lt}
+use native.Mathlib.Nat.{div-add-mod, mod-lt}
 use native.Mathlib.Omega.{arith}
 use lib.Dec.{T, lit<, lit≤}
 use lib.Ieee.{le}
@@ -113,7 +113,7 @@ module _ (words : List ℕ) (b : ℕ) (scratch : List ℤ) (output : List ℕ) (
 
   within-limit : (k p : ℕ) → k < blocks words → p < places → natAbs (getD (block-coefficients b words k) p (pos 0)) ≤ coefficient-limit
   unfolding block-coefficients
-  within-limit k p h l = le-trans (coefficient-size b (block-set 1 (block words k) (block-range checked k h)) (checked .at-width) p l) (lit≤ tt)
+  within-limit k p h l = coefficient-size b (block-set 1 (block words k) (block-range checked k h)) (checked .at-width) p l
 
   body : (i : ℕ) → 0 < i → suc i < length written → (kind (word-at written i) ≡ coefficient-kind) × (outside coefficient-format (value-at written i) ≡ false)
   body i h l =

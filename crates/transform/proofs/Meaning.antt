@@ -43,6 +43,6 @@ module _ (x e : List ℤ) (accepts : T (accepted (forward-returned 2 x e))) wher
   pub zero-place : (u v k : ℕ) → u < 8 → v < 8 → k < 8 → among (components-at u v) k ≡ false → getD (forward-elements 2 x e) (8 * (8 * u + v) + k) (pos 0) ≡ pos 0
   zero-place u v k h l m c = component-place u v k h l m ∙ zero-component (λ i j. sample x (8 * i + j)) u v k h l m c
 
-  -- "the magnitudes of an element's eight components sum to at most 262,144"
+  -- "the magnitudes of an element's eight components sum to at most" the limit
   pub magnitudes-place : (p : ℕ) → p < places → magnitudes (element-at (forward-elements 2 x e) p) ≤ magnitudes-limit
   magnitudes-place p h = forward-set 1 x e accepts .in-limit p h

@@ -6,7 +6,7 @@
 // and 1 take the step of their class (`element_steps`); row 2 is the conjugate of 6, and 5, 7 and 3 are those of 1, 5 and 7. Nothing is rounded or
 // shifted on the way.
 //
-// 32 bits suffice: a step adds at most four bits to what its elements need (`small-step`), so that samples, of 12 bits besides the sign, need 20 after two steps.
+// 32 bits suffice: a step adds at most four bits to what its elements need (`small-step`), so that samples, whose magnitudes need 16, need 24 after two.
 ghost use mathlib.Core.Path.{_≡_};
 ghost use mathlib.Core.Bool.{not};
 ghost use Prim.Native.Nat.{_%_, _*_, _+_, _/_, _<_};

@@ -64,7 +64,7 @@ fn try_forward(other: i32, x: i32, i: usize)
 // 63 samples, all out of range: cause 1 comes before 2. Then a buffer of 511 numbers.
 fn short_forward() {
     let mut elements = [7i32; 512];
-    print_answer(forward(&[2048i32; 63], &mut elements));
+    print_answer(forward(&[32768i32; 63], &mut elements));
     print(elements[0], b'\n');
     let mut short = [7i32; 511];
     print_answer(forward(&[0i32; 64], &mut short));
@@ -86,12 +86,12 @@ fn try_back(x: i32, k: usize)
 // 511 numbers, all too large: cause 1 comes before 4. Then a buffer of 63 samples. Then 512 numbers, all too large: cause 4 comes before 5.
 fn short_back() {
     let mut samples = [7i32; 64];
-    print_answer(back(&[262145i32; 511], &mut samples));
+    print_answer(back(&[4194305i32; 511], &mut samples));
     print(samples[0], b'\n');
     let mut short = [7i32; 63];
     print_answer(back(&[0i32; 512], &mut short));
     print(short[0], b'\n');
-    print_answer(back(&[262145i32; 512], &mut samples));
+    print_answer(back(&[4194305i32; 512], &mut samples));
     print(samples[0], b'\n');
 }
 
@@ -111,7 +111,7 @@ fn try_round(x: i32, k: usize, b: u32)
 // 511 numbers, all too large, at b = 12: cause 1 comes before 3 and 4. Then a buffer of 63 coefficients.
 fn short_round() {
     let mut coefficients = [7i32; 64];
-    print_answer(round(&[262145i32; 511], 12, &mut coefficients));
+    print_answer(round(&[4194305i32; 511], 12, &mut coefficients));
     print(coefficients[0], b'\n');
     let mut short = [7i32; 63];
     print_answer(round(&[0i32; 512], 11, &mut short));
@@ -210,7 +210,11 @@ fn forward_examples() {
     try_forward(2047, 2047, 0);
     try_forward(0, 2048, 0);
     try_forward(0, -2049, 63);
-    try_forward(2048, 0, 0);
+    try_forward(-32768, -32768, 0);
+    try_forward(32767, 32767, 0);
+    try_forward(0, 32768, 0);
+    try_forward(0, -32769, 63);
+    try_forward(32768, 0, 0);
     short_forward();
 }
 
@@ -222,6 +226,10 @@ fn back_examples() {
     try_back(128, 0);
     try_back(-262144, 0);
     try_back(262016, 0);
+    try_back(4194304, 0);
+    try_back(4194305, 0);
+    try_back(-4194304, 0);
+    try_back(4194176, 0);
     try_back(-2147483648, 511);
     try_back(2147483647, 79);
     try_back(0, 0);
@@ -233,10 +241,13 @@ fn return_examples() {
     io::write_all(1, b"forward, then back\n");
     try_return(-2048, 2047, 511, 0);
     try_return(2047, -2048, 511, 0);
+    try_return(-32768, 32767, 511, 0);
+    try_return(32767, -32768, 511, 0);
     try_return(1, 1, 0, 128);
     try_return(1, 1, 0, 129);
     try_return(1, 1, 511, 1);
     try_return(1, 1, 0, 262144);
+    try_return(1, 1, 0, 4194304);
 }
 
 fn round_examples() {
@@ -245,11 +256,16 @@ fn round_examples() {
     try_round(262144, 0, 20);
     try_round(262144, 0, 26);
     try_round(262145, 0, 26);
+    try_round(4194304, 0, 11);
+    try_round(4194304, 0, 20);
+    try_round(4194304, 0, 26);
+    try_round(4194305, 0, 26);
     try_round(-2147483648, 511, 26);
     try_round(256, 74, 11);
     try_round(-256, 74, 11);
     try_round(-262144, 505, 26);
-    try_round(262145, 0, 12);
+    try_round(-4194304, 505, 26);
+    try_round(4194305, 0, 12);
     short_round();
 }
 
@@ -259,6 +275,8 @@ fn both_examples() {
     try_both(0, 1, 11);
     try_both(-2048, -2048, 20);
     try_both(2047, 2047, 26);
+    try_both(-32768, -32768, 11);
+    try_both(32767, 32767, 26);
 }
 
 fn sheet_examples() {
@@ -270,14 +288,18 @@ fn sheet_examples() {
     try_sheet(0x20000800, 1, 26);
     try_sheet(0x2FFFF800, 64, 11);
     try_sheet(0x2FFFF7FF, 64, 11);
-    try_sheet(0x30000800, 32, 20);
+    try_sheet(0x20007FFF, 1, 26);
+    try_sheet(0x20008000, 1, 26);
+    try_sheet(0x2FFF8000, 64, 11);
+    try_sheet(0x2FFF7FFF, 64, 11);
+    try_sheet(0x30008000, 32, 20);
     try_sheet(0xE0000002, 65, 20);
     try_sheet(0xF0000002, 65, 20);
     try_sheet(0x40004001, 0, 26);
     try_sheet(0x10000001, 0, 26);
     try_sheet(0x10004002, 0, 26);
     try_sheet(0x10204001, 0, 26);
-    try_sheet(0x20000800, 1, 12);
+    try_sheet(0x20008000, 1, 12);
     short_sheet();
     empty_sheet(26);
     empty_sheet(12);

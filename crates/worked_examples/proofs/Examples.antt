@@ -1,4 +1,4 @@
--- The worked examples that 01 stars hold.
+-- The worked examples hold.
 -- Assumes nothing.
 use mathlib.Core.Path.{refl}
 use lib.IntN.{pos, negsuc}
@@ -25,6 +25,7 @@ examples-hold =
     also refl also refl
     also constant (pos 1) also refl also refl also refl
     also constant (negsuc 2047) also constant (pos 2047) also refl also refl also refl also refl also refl also refl
+    also constant (negsuc 32767) also constant (pos 32767) also refl also refl also refl also refl also refl also refl
     also refl also refl also refl also refl
     also refl also refl also refl
     also refl also refl also refl

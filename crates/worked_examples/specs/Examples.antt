@@ -1,4 +1,5 @@
--- The worked examples that 01 stars ("Films to try"), as changed by 02: what the definitions give, and what the papers say.
+-- The worked examples that 01 stars ("Films to try"), as changed by 02, and the ends of the range: what the definitions give, and what the papers say, or
+-- what follows from their rules.
 use mathlib.Core.Path.{_≡_}
 use mathlib.Core.Bool.{Bool, true, cond}
 use mathlib.Core.List.{List, [], _∷_}
@@ -82,6 +83,15 @@ examples =
     ∷ (rounded 11 (at (all (pos 2047)) 0 0) is alone (pos 131008))
     ∷ (rounded 20 (at (all (pos 2047)) 0 0) is alone (pos 131008))
     ∷ (rounded 26 (at (all (pos 2047)) 0 0) is alone (pos 131008))
+    -- the ends of the range (02, request 6), all -32,768: u_0 is -4,194,304, coefficient -2,097,152; all 32,767: 4,194,176 and 2,097,088
+    ∷ (elements-of 2 (all (negsuc 32767)) is at-corner (negsuc 4194303))
+    ∷ (elements-of 2 (all (pos 32767)) is at-corner (pos 4194176))
+    ∷ (rounded 11 (at (all (negsuc 32767)) 0 0) is alone (negsuc 2097151))
+    ∷ (rounded 20 (at (all (negsuc 32767)) 0 0) is alone (negsuc 2097151))
+    ∷ (rounded 26 (at (all (negsuc 32767)) 0 0) is alone (negsuc 2097151))
+    ∷ (rounded 11 (at (all (pos 32767)) 0 0) is alone (pos 2097088))
+    ∷ (rounded 20 (at (all (pos 32767)) 0 0) is alone (pos 2097088))
+    ∷ (rounded 26 (at (all (pos 32767)) 0 0) is alone (pos 2097088))
     -- sample (0,0) = 1, others 0: (0,0) is 2; (0,1) is c_3+c_5; (1,1) is 2+c_2; (1,7) is c_6
     ∷ (at one 0 0 is integer (pos 2))
     ∷ (at one 0 1 is add (c 3) (c 5))

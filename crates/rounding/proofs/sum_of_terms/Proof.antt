@@ -1,4 +1,4 @@
--- `sum_of_terms` meets its contract: the loop adds one product after the other, and none of the sums is above 2^45.
+-- `sum_of_terms` meets its contract: the loop adds one product after the other, and none of the sums is above `largest`.
 -- Assumes nothing.
 use Prim.Native.Nat.{_-_}
 use native.Mathlib.Omega.{arith}
