@@ -18,7 +18,7 @@ answers-of r =
     (cond (eqb (r .number) 3) (Width ∷ [])
     (cond (eqb (r .number) 4) (Magnitudes (r .place) ∷ [])
     (cond (eqb (r .number) 5) (NoBlock ∷ [])
-    (cond (eqb (r .number) 6) (Head ∷ [])
+    (cond (eqb (r .number) 6) (Head (r .place) ∷ [])
     (cond (eqb (r .number) 7) (Words (r .place) ∷ [])
     (cond (eqb (r .number) 8) (End (r .place) ∷ [])
     (cond (eqb (r .number) 9) (Orientation ∷ [])
@@ -33,7 +33,7 @@ there-and-back (Sample i) = refl
 there-and-back Width = refl
 there-and-back (Magnitudes p) = refl
 there-and-back NoBlock = refl
-there-and-back Head = refl
+there-and-back (Head p) = refl
 there-and-back (Words n) = refl
 there-and-back (End i) = refl
 there-and-back Orientation = refl

@@ -1,5 +1,5 @@
--- The causes of a refusal, for every job: a call has a reason, and no other answer has one; it is accepted exactly when no cause holds; and what it
--- leaves.
+-- The causes of a refusal, for every list of them: what is returned has a reason, and no other answer has one; it is an acceptance exactly when no cause
+-- holds.
 -- Assumes nothing.
 use mathlib.Core.Path.{_≡_, refl, sym, subst, _∙_}
 use mathlib.Core.Bool.{Bool, true, false, cond}
@@ -7,12 +7,13 @@ use mathlib.Core.List.{List, [], _∷_, _++_}
 use Prim.Native.Nat.{ℕ, _≤_, _<_}
 use native.Mathlib.Nat.{le-refl, le-of-lt, lt-of-lt-of-le}
 use native.Mathlib.Omega.{arith}
-use lib.Dec.{T, ltb}
-use borrow.Author.Tests.{ne-eqb, lt-ltb, le-ltb, ltb-true, ltb-false}
-use Rattle.integers.specs.Search.{first}
-use Rattle.integers.proofs.Search.{first-none, before-first, at-first, first-at}
+use lib.Dec.{T, eqb, ltb}
+use borrow.Author.Tests.{eq-eqb, ne-eqb, lt-ltb, le-ltb, ltb-true, ltb-false}
+use Rattle.integers.specs.Search.{any, first}
+use Rattle.integers.proofs.Search.{first-none, before-first, at-first, first-at, any-none}
 use Rattle.integers.proofs.Tests as tests
-use Rattle.answers.specs.Answer.{Returned, Cause, test, search, answered, accept-words, accepted, written, Passes, Names, fails, faulty-at, Reason, holds, passes, none-holds, Each, Numbered}
+use Rattle.answers.specs.Answer.{Returned, Cause, test, search, sized, answered, accepted, moved, moved-cause, moved-causes}
+use Rattle.answers.specs.Answer.{Passes, Names, fails, faulty-at, Reason, holds, passes, none-holds, Each, Numbered}
 
 -- what a search of the code answers
 
@@ -23,13 +24,23 @@ module _ (size : ℕ) (faulty : ℕ → Bool) {i : ℕ} (f : i ≡ first size fa
   pub not-found : size ≤ i → (j : ℕ) → j < size → faulty j ≡ false
   not-found h j l = before-first size faulty j (rw (← f) (lt-of-lt-of-le l h))
 
+-- and a loop without an early exit before it
+module _ (size : ℕ) (faulty : ℕ → Bool) {t : Bool} (a : t ≡ any size faulty) where
+  pub some-found : t ≡ true → {i : ℕ} → i ≡ first size faulty → {refusal : ℕ → Returned} → Names (search size faulty refusal) (refusal i)
+  some-found h {i} f = found size faulty f (rw f (ltb-true (first size faulty) size (sym a ∙ h)))
+
+  pub none-found : t ≡ false → (j : ℕ) → j < size → faulty j ≡ false
+  none-found h = any-none size faulty (sym a ∙ h)
+
 -- one cause
 
-passes-on : (c : Cause) (l : List Cause) (end : Returned) → Passes c → answered (c ∷ l) end ≡ answered l end
+pub passes-on : (c : Cause) (l : List Cause) (end : Returned) → Passes c → answered (c ∷ l) end ≡ answered l end
+unfolding answered
 passes-on (test t refusal) l end h = rw (tests.holds t h)
 passes-on (search size faulty refusal) l end h = rw (first-none size faulty (record { room = le-refl size; fails = h }), le-ltb size size (le-refl size))
 
 names-it : {c : Cause} {r : Returned} → Names c r → (l : List Cause) (end : Returned) → r ≡ answered (c ∷ l) end
+unfolding answered
 names-it (fails e) l end = rw e
 names-it (faulty-at {size} {faulty} i h before e) l end =
     rw (first-at size faulty i h (record { room = le-of-lt h; fails = before }) e, lt-ltb i size h)
@@ -41,11 +52,13 @@ excludes (faulty-at i l before e) h = subst T (sym e ∙ h i l) tt
 -- a call has a reason, and no other answer has one
 
 pub only-reason : {end : Returned} {l : List Cause} {r : Returned} → Reason end l r → r ≡ answered l end
+unfolding answered
 only-reason {end} (holds {c} {l} n) = names-it n l end
 only-reason {end} (passes {c} {l} p R) = only-reason R ∙ sym (passes-on c l end p)
 only-reason none-holds = refl
 
 pub some-reason : (l : List Cause) (end : Returned) → Reason end l (answered l end)
+unfolding answered
 some-reason [] end = none-holds
 some-reason (test true refusal ∷ l) end = passes tt (some-reason l end)
 some-reason (test false refusal ∷ l) end = holds (fails refl)
@@ -59,6 +72,7 @@ some-reason (search size faulty refusal ∷ l) end = go (ltb (first size faulty)
 -- a call is accepted exactly when no cause holds
 
 pub accepts : (l : List Cause) (end : Returned) → Each Passes l → answered l end ≡ end
+unfolding answered
 accepts [] end h = refl
 accepts (c ∷ l) end (p, h) = passes-on c l end p ∙ accepts l end h
 
@@ -94,22 +108,27 @@ module _ (a : Returned) {n : ℕ} (g : n ≡ a .number) where
   pub accepted-number : n ≡ 0 → T (accepted a)
   accepted-number z = rw (← g, z) tt
 
--- what a call leaves
+-- a buffer of the length that a job asks for, and one of another
 
-pub accepted-leaves : {A : Type 0} (r : Returned) (result was : A) → T (accepted r) → written r result was ≡ result
-accepted-leaves r result was h = rw (tests.holds (accepted r) h)
+pub right-length : {n m : ℕ} → n ≡ m → T (eqb n m)
+right-length {n} {m} e = rw (eq-eqb n m e) tt
 
-pub refused-leaves : {A : Type 0} (r : Returned) (result was : A) → accepted r ≡ false → written r result was ≡ was
-refused-leaves r result was h = rw h
+pub wrong-length : {n m : ℕ} → (n ≡ m → ⊥) → Names (sized n m) (record { number = 1; place = 0 })
+wrong-length {n} {m} h = fails (ne-eqb n m h)
 
--- the ways out of a job with one buffer: it is refused for a reason, or accepted, and leaves the buffer as it was, or its result
+-- causes whose places are moved: what is returned is moved, and they hold where the others do
 
-module _ {A : Type 0} (l : List Cause) (n : ℕ) (result was : A) where
-  abbrev Ends : Returned → A → Type 0
-  Ends r left = (r ≡ answered l (accept-words n)) × (left ≡ written (answered l (accept-words n)) result was)
+pub answered-moved : (m : ℕ) (l : List Cause) (end : Returned) → answered (moved-causes m l) (moved m end) ≡ moved m (answered l end)
+unfolding answered
+answered-moved m [] end = refl
+answered-moved m (test true refusal ∷ l) end = answered-moved m l end
+answered-moved m (test false refusal ∷ l) end = refl
+answered-moved m (search size faulty refusal ∷ l) end = go (ltb (first size faulty) size) (answered l end) (answered-moved m l end)
+  where
+    go : {r : Returned} (t : Bool) (s : Returned) → r ≡ moved m s → cond t (moved m (refusal (first size faulty))) r ≡ moved m (cond t (refusal (first size faulty)) s)
+    go true s e = refl
+    go false s e = e
 
-  pub ends-refused : {r : Returned} → Reason (accept-words n) l r → accepted r ≡ false → Ends r was
-  ends-refused R h = let e = only-reason R in (e, rw (← e, h))
-
-  pub ends-accepted : Each Passes l → {left : A} → left ≡ result → Ends (accept-words n) left
-  ends-accepted p f = let e = accepts l (accept-words n) p in (sym e, rw (e, f))
+pub moved-passes : (m : ℕ) (c : Cause) → Passes (moved-cause m c) ≡ Passes c
+moved-passes m (test t refusal) = refl
+moved-passes m (search size faulty refusal) = refl

@@ -2,7 +2,7 @@
 use mathlib.Core.Path.{_≡_}
 use mathlib.Core.Bool.{Bool, true, false, cond}
 use mathlib.Core.List.{List, [], _∷_}
-use Prim.Native.Nat.{ℕ, _<_}
+use Prim.Native.Nat.{ℕ, _+_, _<_}
 use lib.Dec.{T, ltb, eqb}
 use Rattle.integers.specs.Search.{first}
 use Rattle.answers.specs.declared.Answer.{Answer}
@@ -20,7 +20,7 @@ returned (Sample i) = record { number = 2; place = i }
 returned Width = record { number = 3; place = 0 }
 returned (Magnitudes p) = record { number = 4; place = p }
 returned NoBlock = record { number = 5; place = 0 }
-returned Head = record { number = 6; place = 0 }
+returned (Head p) = record { number = 6; place = p }
 returned (Words n) = record { number = 7; place = n }
 returned (End i) = record { number = 8; place = i }
 returned Orientation = record { number = 9; place = 0 }
@@ -43,6 +43,10 @@ unless-at p passes n = test passes (record { number = n; place = p })
 abbrev pub unless : Bool → ℕ → Cause
 unless = unless-at 0
 
+-- cause 1: a buffer has another length than the job asks for
+abbrev pub sized : ℕ → ℕ → Cause
+sized given asked = unless (eqb given asked) 1
+
 -- cause n at the lowest of the indices below `size` that is faulty
 abbrev pub lowest : ℕ → (ℕ → Bool) → ℕ → Cause
 lowest size faulty n = search size faulty (λ i. record { number = n; place = i })
@@ -60,7 +64,7 @@ abbrev pub accept : Returned
 accept = accept-words 0
 
 -- what a call returns: the first cause that holds, and `end` where none does
-abbrev pub answered : List Cause → Returned → Returned
+unfoldable pub answered : List Cause → Returned → Returned
 answered [] end = end
 answered (test passes refusal ∷ l) end = cond passes (answered l end) refusal
 answered (search size faulty refusal ∷ l) end = cond (ltb (first size faulty) size) (refusal (first size faulty)) (answered l end)
@@ -69,9 +73,18 @@ answered (search size faulty refusal ∷ l) end = cond (ltb (first size faulty) 
 abbrev pub accepted : Returned → Bool
 accepted r = eqb (r .number) 0
 
--- what a call leaves in a buffer: its result if it is accepted, and otherwise what was there
-abbrev pub written : {A : Type 0} → Returned → A → A → A
-written r result was = cond (accepted r) result was
+-- the same causes, with m added to the place that each names
+
+abbrev pub moved : ℕ → Returned → Returned
+moved m r = record { number = r .number; place = m + r .place }
+
+abbrev pub moved-cause : ℕ → Cause → Cause
+moved-cause m (test passes refusal) = test passes (moved m refusal)
+moved-cause m (search size faulty refusal) = search size faulty (λ i. moved m (refusal i))
+
+abbrev pub moved-causes : ℕ → List Cause → List Cause
+moved-causes m [] = []
+moved-causes m (c ∷ l) = moved-cause m c ∷ moved-causes m l
 
 -- why a call returns what it does, for the theorems: `some-reason` gives each call a reason, `only-reason` says that no other answer has one, and
 -- `excludes` that no cause both holds and does not

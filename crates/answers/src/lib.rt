@@ -15,8 +15,8 @@ pub enum Answer {
     Magnitudes(usize),
     // No block in range has these elements.
     NoBlock,
-    // A sheet does not begin with a head whose sizes are allowed.
-    Head,
+    // A sheet does not begin with a head whose sizes are allowed; it begins at this place.
+    Head(usize),
     // A sheet has this many words, and not as many as its sizes ask for; or the word at this index is of another kind than its place needs.
     Words(usize),
     // The end word, at this index, does not hold the number of blocks.
@@ -40,7 +40,7 @@ pub fn number(a: Answer) -> u32
         Answer::Width => 3,
         Answer::Magnitudes(_) => 4,
         Answer::NoBlock => 5,
-        Answer::Head => 6,
+        Answer::Head(_) => 6,
         Answer::Words(_) => 7,
         Answer::End(_) => 8,
         Answer::Orientation => 9,
@@ -60,7 +60,7 @@ pub fn place(a: Answer) -> usize
         Answer::Width => 0,
         Answer::Magnitudes(p) => p,
         Answer::NoBlock => 0,
-        Answer::Head => 0,
+        Answer::Head(p) => p,
         Answer::Words(n) => n,
         Answer::End(i) => i,
         Answer::Orientation => 0,

@@ -1,4 +1,4 @@
 -- The laws of the jobs that make floats of a block.
-pub mod Causes
+pub mod Acceptance
 pub mod Magnitudes
 pub mod Meaning

@@ -10,50 +10,43 @@ use lib.Dec.{T, eqb, ltb, leb, lit<, lit≤}
 use lib.Ieee.{Float, lt}
 use lib.Ieee.Exact.{HasValue}
 use lib.IntN.{ℤ, pos, negsuc, natAbs}
-use lib.ListN.{length, getD}
+use lib.ListN.{getD}
 use lib.Signed.{ltZ}
 use borrow.Author.Tests.{ltb-false, le-leb, leb-true, not-true}
 use Rattle.integers.proofs.Search.{any-none, none-any}
 use Rattle.integers.proofs.Tables.{getD-table}
 use Rattle.limits.specs.Limits.{places}
-use Rattle.answers.specs.Answer.{accept, accepted}
-use Rattle.answers.proofs.Causes as causes
+use Rattle.answers.specs.Job.{job-left, Accepts}
+use Rattle.answers.proofs.Jobs.{accepted-leaves}
 use Rattle.floats.specs.Fraction.{negative, coefficient-float, mean-grey, plus-zero}
 use Rattle.floats.proofs.Fractions.{exact-limit, few-digits, exact}
 use Rattle.floats.proofs.Comparison.{in-order}
 use Rattle.block_floats.specs.Preconditions.{Within}
 use Rattle.block_floats.specs.declared.BlockSummary.{BlockSummary}
 use Rattle.block_floats.specs.declared.BlockSummary.the-variants.{Lengths, Coefficient, Flat, Textured}
-use Rattle.block_floats.specs.Summary.{Summarized, LargestOther, refused, flat, textured-with, summarized, magnitude-at, is-flat, largest-place, summary-returned, summary-given}
-use Rattle.block_floats.specs.ToFloats.{coefficient-at, block-floats, to-floats-returned, to-floats-floats}
-use Rattle.block_floats.proofs.Causes.{small, floats-means, summary-means, summary-accepts, summary-gives}
+use Rattle.block_floats.specs.Summary.{Given, Summarized, LargestOther, flat, textured-with, summarized, magnitude-at, is-flat, largest-place, summary-job}
+use Rattle.block_floats.specs.ToFloats.{coefficient-at, to-floats-job}
+use Rattle.block_floats.proofs.Acceptance.{small, floats-means, summary-means}
 use Rattle.block_floats.proofs.Magnitudes.{only-largest}
 
 -- an accepted call of to_floats
 
-module _ (y : List ℤ) (floats : List Float) (h : T (accepted (to-floats-returned y (length floats)))) where
-  pub float-place : (p : ℕ) → p < places → getD (to-floats-floats y floats) p plus-zero ≡ coefficient-float (coefficient-at y p)
-  unfolding to-floats-floats
-  float-place p l =
-      rw (causes.accepted-leaves (to-floats-returned y (length floats)) (block-floats y) floats h) (getD-table places (λ p. coefficient-float (coefficient-at y p)) plus-zero p l)
+module _ (y : List ℤ) (floats : List Float) (h : Accepts (to-floats-job y floats)) where
+  pub float-place : (p : ℕ) → p < places → getD (job-left (to-floats-job y floats)) p plus-zero ≡ coefficient-float (coefficient-at y p)
+  float-place p l = rw (accepted-leaves (to-floats-job y floats) h) (getD-table places (λ p. coefficient-float (coefficient-at y p)) plus-zero p l)
 
   digits-at : (p : ℕ) → p < places → natAbs (coefficient-at y p) < exact-limit
-  digits-at p l = few-digits (coefficient-at y p) (small y (floats-means y (length floats) h .0) p l)
+  digits-at p l = few-digits (coefficient-at y p) (small y (floats-means y floats h .0) p l)
 
   -- "exactly its eighths divided by 8": finite, of the coefficient's sign, its magnitude over 8
   pub float-exact : (p : ℕ) → p < places
-      → HasValue (getD (to-floats-floats y floats) p plus-zero) (negative (coefficient-at y p)) (natAbs (coefficient-at y p)) 8
+      → HasValue (getD (job-left (to-floats-job y floats)) p plus-zero) (negative (coefficient-at y p)) (natAbs (coefficient-at y p)) 8
   float-exact p l = rw (float-place p l) (exact 3 (coefficient-at y p) (lit≤ tt) (digits-at p l))
 
   -- the order of the floats is that of the coefficients
   pub float-order : (p q : ℕ) → p < places → q < places
-      → lt (getD (to-floats-floats y floats) p plus-zero) (getD (to-floats-floats y floats) q plus-zero) ≡ ltZ (coefficient-at y p) (coefficient-at y q)
+      → lt (getD (job-left (to-floats-job y floats)) p plus-zero) (getD (job-left (to-floats-job y floats)) q plus-zero) ≡ ltZ (coefficient-at y p) (coefficient-at y q)
   float-order p q k l = rw (float-place p k, float-place q l) (in-order 3 (coefficient-at y p) (coefficient-at y q) (lit≤ tt) (digits-at p k) (digits-at q l))
-
--- a refused call leaves the buffer as it was
-pub refused-leaves : (y : List ℤ) (floats : List Float) → accepted (to-floats-returned y (length floats)) ≡ false → to-floats-floats y floats ≡ floats
-unfolding to-floats-floats
-refused-leaves y floats = causes.refused-leaves (to-floats-returned y (length floats)) (block-floats y) floats
 
 -- the floats and the answer tell every case of a summary from every other
 
@@ -61,7 +54,7 @@ summary-of : Summarized → BlockSummary
 summary-of g =
     cond (eqb (g .answer .number) 1) Lengths
     (cond (eqb (g .answer .number) 11) (Coefficient (g .answer .place))
-    (cond (eqb (g .textured) 1) (Textured (g .mean) (g .largest)) (Flat (g .mean))))
+    (cond (eqb (g .given .textured) 1) (Textured (g .given .mean) (g .given .largest)) (Flat (g .given .mean))))
 
 there-and-back : (s : BlockSummary) → summary-of (summarized s) ≡ s
 unfolding summary-of
@@ -79,7 +72,7 @@ zero-magnitude : (z : ℤ) → natAbs z ≤ 0 → z ≡ pos 0
 zero-magnitude (pos n) h = ap pos (omega arith)
 zero-magnitude (negsuc n) h = absurd (not-suc-le-zero h)
 
-module _ (y : List ℤ) (h : T (accepted (summary-returned y))) where
+module _ (y : List ℤ) (h : Accepts (summary-job y)) where
   W : Within y
   W = summary-means y h
 
@@ -90,19 +83,16 @@ module _ (y : List ℤ) (h : T (accepted (summary-returned y))) where
   largest = coefficient-float (coefficient-at y (largest-place y))
 
   -- what it gives is one of two
-  two-cases : (P : Summarized → Type 0) → (is-flat y ≡ true → P (flat mean)) → (is-flat y ≡ false → P (textured-with mean largest)) → P (summary-given y)
+  two-cases : (P : Given → Type 0) → (is-flat y ≡ true → P (flat mean)) → (is-flat y ≡ false → P (textured-with mean largest)) → P (job-left (summary-job y))
   unfolding mean largest
-  two-cases P f g = rw (summary-gives y W) (go (is-flat y) refl)
+  two-cases P f g = rw (accepted-leaves (summary-job y) h) (go (is-flat y) refl)
     where
       go : (t : Bool) → is-flat y ≡ t → P (cond t (flat mean) (textured-with mean largest))
       go true e = f e
       go false e = g e
 
-  accepted-answer : summary-given y .answer ≡ accept
-  accepted-answer = two-cases (λ g. g .answer ≡ accept) (λ e. refl) (λ e. refl)
-
   -- "the mean grey is the first coefficient in eighths over 64", exactly
-  pub mean-exact : HasValue (summary-given y .mean) (negative (coefficient-at y 0)) (magnitude-at y 0) 64
+  pub mean-exact : HasValue (job-left (summary-job y) .mean) (negative (coefficient-at y 0)) (magnitude-at y 0) 64
   unfolding mean
   mean-exact =
       let v = exact 6 (coefficient-at y 0) (lit≤ tt) (few-digits (coefficient-at y 0) (small y W 0 (lit< tt))) in
@@ -115,11 +105,11 @@ module _ (y : List ℤ) (h : T (accepted (summary-returned y))) where
       let none = any-none places (λ p. leb 1 p && ltb 0 (magnitude-at y p)) (not-true _ e) p l in
       zero-magnitude (coefficient-at y p) (ltb-false 0 (magnitude-at y p) (sym (ap (λ t. t && ltb 0 (magnitude-at y p)) (le-leb 1 p k)) ∙ none))
 
-  pub flat-means : summary-given y .textured ≡ 0 → (p : ℕ) → 0 < p → p < places → coefficient-at y p ≡ pos 0
+  pub flat-means : job-left (summary-job y) .textured ≡ 0 → (p : ℕ) → 0 < p → p < places → coefficient-at y p ≡ pos 0
   flat-means =
       two-cases (λ g. g .textured ≡ 0 → (p : ℕ) → 0 < p → p < places → coefficient-at y p ≡ pos 0) (λ e z. zeros e) (λ e z. absurd (suc-ne-zero 0 z))
 
-  pub zeros-flat : ((p : ℕ) → 0 < p → p < places → coefficient-at y p ≡ pos 0) → summary-given y .textured ≡ 0
+  pub zeros-flat : ((p : ℕ) → 0 < p → p < places → coefficient-at y p ≡ pos 0) → job-left (summary-job y) .textured ≡ 0
   zeros-flat given = two-cases (λ g. g .textured ≡ 0) (λ e. refl) (λ e. absurd (subst T (sym all ∙ e) tt))
     where
       none : (p : ℕ) → p < places → (t : Bool) → leb 1 p ≡ t → (t && ltb 0 (magnitude-at y p)) ≡ false
@@ -129,30 +119,17 @@ module _ (y : List ℤ) (h : T (accepted (summary-returned y))) where
       all : is-flat y ≡ true
       all = ap not (none-any places (λ p. leb 1 p && ltb 0 (magnitude-at y p)) (λ p l. none p l (leb 1 p) refl))
 
-  pub others-textured : (p : ℕ) → 0 < p → p < places → (coefficient-at y p ≡ pos 0 → ⊥) → summary-given y .textured ≡ 1
+  pub others-textured : (p : ℕ) → 0 < p → p < places → (coefficient-at y p ≡ pos 0 → ⊥) → job-left (summary-job y) .textured ≡ 1
   others-textured p k l x = two-cases (λ g. g .textured ≡ 1) (λ e. absurd (x (zeros e p k l))) (λ e. refl)
 
   -- the largest other coefficient of a textured block, exactly, "with its sign"; of a flat one there is none, and it is plus zero
 
-  pub largest-exact : {p : ℕ} → LargestOther y p → summary-given y .textured ≡ 1 → HasValue (summary-given y .largest) (negative (coefficient-at y p)) (magnitude-at y p) 8
+  pub largest-exact : {p : ℕ} → LargestOther y p → job-left (summary-job y) .textured ≡ 1 → HasValue (job-left (summary-job y) .largest) (negative (coefficient-at y p)) (magnitude-at y p) 8
   unfolding largest
   largest-exact {p} L =
       let v = exact 3 (coefficient-at y p) (lit≤ tt) (few-digits (coefficient-at y p) (small y W p (L .in-block))) in
       two-cases (λ g. g .textured ≡ 1 → HasValue (g .largest) (negative (coefficient-at y p)) (magnitude-at y p) 8) (λ e z. absurd (suc-ne-zero 0 (sym z)))
       (λ e z. rw (← only-largest y L) v)
 
-  pub flat-largest : summary-given y .textured ≡ 0 → summary-given y .largest ≡ plus-zero
+  pub flat-largest : job-left (summary-job y) .textured ≡ 0 → job-left (summary-job y) .largest ≡ plus-zero
   flat-largest = two-cases (λ g. g .textured ≡ 0 → g .largest ≡ plus-zero) (λ e z. refl) (λ e z. absurd (suc-ne-zero 0 z))
-
--- a refused call gives its number and place, and no float but plus zero
-pub refused-gives : (y : List ℤ) → accepted (summary-returned y) ≡ false → summary-given y ≡ refused (summary-returned y)
-unfolding summary-given
-refused-gives y h = rw h
-
--- the number and place that any call gives are those of its causes
-pub answer-given : (y : List ℤ) → summary-given y .answer ≡ summary-returned y
-answer-given y = go (accepted (summary-returned y)) refl
-  where
-    go : (t : Bool) → accepted (summary-returned y) ≡ t → summary-given y .answer ≡ summary-returned y
-    go true e = let h : T (accepted (summary-returned y)) = rw e tt in accepted-answer y h ∙ sym (summary-accepts y (summary-means y h))
-    go false e = ap (λ g. g .answer) (refused-gives y e)

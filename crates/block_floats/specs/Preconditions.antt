@@ -5,10 +5,10 @@ use mathlib.Core.List.{List}
 use Prim.Native.Nat.{ℕ, _<_}
 use lib.IntN.{ℤ}
 use lib.ListN.{length}
-use Rattle.limits.specs.Limits.{places}
-use Rattle.coefficients.specs.Coefficient.{beyond-at}
+use Rattle.integers.specs.Range.{beyond-at}
+use Rattle.limits.specs.Limits.{places, coefficient-limit}
 
 -- 64 coefficients, none beyond the limit
 pub record Within (y : List ℤ) : Type 0 where
   pub size : length y ≡ places
-  pub none-beyond : (p : ℕ) → p < places → beyond-at y p ≡ false
+  pub none-beyond : (p : ℕ) → p < places → beyond-at coefficient-limit y p ≡ false

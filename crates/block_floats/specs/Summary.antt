@@ -1,4 +1,4 @@
--- What `summary` returns (02, request 4), for any numbers and any buffer.
+-- The job `summary` (02, request 4), for any numbers and any buffer.
 use mathlib.Core.Bool.{Bool, cond, not, _&&_}
 use mathlib.Core.List.{List}
 use Prim.Native.Nat.{ℕ, _≤_, _<_}
@@ -8,38 +8,44 @@ use lib.IntN.{ℤ, natAbs}
 use Rattle.integers.specs.Search.{any, foremost}
 use Rattle.limits.specs.Limits.{places}
 use Rattle.answers.specs.declared.Answer.the-variants as answers
-use Rattle.answers.specs.Answer.{Returned, returned, answered, accept, accepted}
+use Rattle.answers.specs.Answer.{Returned, returned, accept}
+use Rattle.answers.specs.Job.{Job}
 use Rattle.floats.specs.Fraction.{coefficient-float, mean-grey, plus-zero}
 use Rattle.block_floats.specs.ToFloats.{block-causes, coefficient-at}
 use Rattle.block_floats.specs.declared.BlockSummary.{BlockSummary}
 use Rattle.block_floats.specs.declared.BlockSummary.the-variants.{Lengths, Coefficient, Flat, Textured}
 
--- what a call gives: its number and place, 1 of a textured block and 0 otherwise, and the floats
-pub record Summarized : Type 0 where
-  pub answer : Returned
+-- what a call gives beside its answer: 1 of a textured block and 0 otherwise, and the floats
+pub record Given : Type 0 where
   pub textured : ℕ
   pub mean : Float
   pub largest : Float
 
--- "A refused call gives its number and place, and any float beside them is plus zero"
-abbrev pub refused : Returned → Summarized
-refused r = record { answer = r; textured = 0; mean = plus-zero; largest = plus-zero }
-
 -- `"flat" with the mean grey`
-abbrev pub flat : Float → Summarized
-flat m = record { answer = accept; textured = 0; mean = m; largest = plus-zero }
+abbrev pub flat : Float → Given
+flat m = record { textured = 0; mean = m; largest = plus-zero }
 
 -- `"textured" with the mean grey and the largest other coefficient`
-abbrev pub textured-with : Float → Float → Summarized
-textured-with m l = record { answer = accept; textured = 1; mean = m; largest = l }
+abbrev pub textured-with : Float → Float → Given
+textured-with m l = record { textured = 1; mean = m; largest = l }
+
+-- "A refused call gives its number and place, and any float beside them is plus zero"
+abbrev pub no-floats : Given
+no-floats = record { textured = 0; mean = plus-zero; largest = plus-zero }
+
+-- all that a call gives
+pub record Summarized : Type 0 where
+  pub answer : Returned
+  pub given : Given
 
 -- the papers' number and place, and the floats, for each case; no two cases give the same (`only-summary`)
 abbrev pub summarized : BlockSummary → Summarized
-summarized Lengths = refused (returned answers.Lengths)
-summarized (Coefficient p) = refused (returned (answers.Coefficient p))
-summarized (Flat m) = flat m
-summarized (Textured m l) = textured-with m l
+summarized Lengths = record { answer = returned answers.Lengths; given = no-floats }
+summarized (Coefficient p) = record { answer = returned (answers.Coefficient p); given = no-floats }
+summarized (Flat m) = record { answer = accept; given = flat m }
+summarized (Textured m l) = record { answer = accept; given = textured-with m l }
 
+-- the magnitude of coefficient p
 abbrev pub magnitude-at : List ℤ → ℕ → ℕ
 magnitude-at y p = natAbs (coefficient-at y p)
 
@@ -63,16 +69,12 @@ larger y q p = ltb (magnitude-at y p) (magnitude-at y q)
 abbrev pub largest-place : List ℤ → ℕ
 largest-place y = foremost 1 places (larger y)
 
--- "its number and place", and 0 and place 0 for an accepted call
-unfoldable pub summary-returned : List ℤ → Returned
-summary-returned y = answered (block-causes y) accept
-
 -- `either "flat" [..] or "textured"`; the largest other coefficient is "given as its float, with its sign"
-abbrev pub block-summary : List ℤ → Summarized
+abbrev pub block-summary : List ℤ → Given
 block-summary y =
     let mean = mean-grey (coefficient-at y 0) in
     cond (is-flat y) (flat mean) (textured-with mean (coefficient-float (coefficient-at y (largest-place y))))
 
--- what the call gives
-unfoldable pub summary-given : List ℤ → Summarized
-summary-given y = cond (accepted (summary-returned y)) (block-summary y) (refused (summary-returned y))
+-- it gives this, and nothing but plus zeros where it is refused
+abbrev pub summary-job : List ℤ → Job Given
+summary-job y = record { causes = block-causes y; end = accept; result = block-summary y; was = no-floats }

@@ -7,15 +7,19 @@ ghost use Prim.Native.Nat.{_≤_};
 ghost use lib.IntN.{pos, natAbs};
 ghost use lib.ListN.{length};
 ghost use Rattle.limits.specs.Limits.{coefficient-limit, places};
-ghost use Rattle.answers.specs.Answer.{returned};
+ghost use Rattle.answers.specs.Answer.{accept, answered, returned};
+ghost use Rattle.answers.specs.Job.{job-left, job-returned};
 ghost use Rattle.block_floats.specs.Preconditions.{Within};
 ghost use Rattle.block_floats.specs.Summary as spec;
-ghost use Rattle.block_floats.specs.ToFloats.{block-floats, to-floats-floats, to-floats-returned};
+ghost use Rattle.block_floats.specs.ToFloats.{block-floats, to-floats-causes, to-floats-job};
 use answers::Answer;
-use coefficients::first_beyond;
+use answers::number;
 use floats::coefficient_float;
 use floats::mean_grey;
+use integers::any_outside;
+use integers::first_outside;
 use integers::higher;
+use limits::COEFFICIENT_LIMIT;
 use limits::PLACES;
 
 // What a block is for the viewer, or why it is refused.
@@ -28,6 +32,23 @@ pub enum BlockSummary {
     Flat(f32),
     // One of them is not: the mean grey, and the largest of them by magnitude.
     Textured(f32, f32),
+}
+
+// Why a block is refused, with room for this many floats.
+fn check(coefficients: &[i32], room: usize) -> Answer
+    ensures { λ r. ⌜ returned r ≡ answered (to-floats-causes (now (coefficients .entry)) room) accept ⌝ }
+{
+    if room != PLACES {
+        return Answer::Lengths;
+    }
+    if coefficients.len() != PLACES {
+        return Answer::Lengths;
+    }
+    if any_outside(coefficients, PLACES, -COEFFICIENT_LIMIT, COEFFICIENT_LIMIT) {
+        let p = first_outside(coefficients, PLACES, -COEFFICIENT_LIMIT, COEFFICIENT_LIMIT);
+        return Answer::Coefficient(p);
+    }
+    Answer::Accepted(0)
 }
 
 // The floats of 64 coefficients within the limit.
@@ -45,21 +66,16 @@ fn fill(coefficients: &[i32], floats: &mut [f32])
 
 // The floats of 64 coefficients, or why these are refused; then `floats` is as it was.
 pub fn to_floats(coefficients: &[i32], floats: &mut [f32]) -> Answer
-    ensures { λ r. ⌜ returned r ≡ to-floats-returned (now (coefficients .entry)) (length (now (floats .entry))) ⌝ }
-    ensures { λ r. ⌜ now (floats .exit) ≡ to-floats-floats (now (coefficients .entry)) (now (floats .entry)) ⌝ }
+    ensures { λ r. ⌜ returned r ≡ job-returned (to-floats-job (now (coefficients .entry)) (now (floats .entry))) ⌝ }
+    ensures { λ r. ⌜ now (floats .exit) ≡ job-left (to-floats-job (now (coefficients .entry)) (now (floats .entry))) ⌝ }
+    ensures { λ r. ⌜ now (coefficients .exit) ≡ now (coefficients .entry) ⌝ }
 {
-    if floats.len() != PLACES {
-        return Answer::Lengths;
-    }
-    if coefficients.len() != PLACES {
-        return Answer::Lengths;
-    }
-    let p = first_beyond(coefficients);
-    if p < PLACES {
-        return Answer::Coefficient(p);
+    let answer = check(coefficients, floats.len());
+    if number(answer) != 0 {
+        return answer;
     }
     fill(coefficients, floats);
-    Answer::Accepted(0)
+    answer
 }
 
 // The magnitude of a coefficient within the limit, in 32 bits, of which the compiler takes several at a time.
@@ -105,13 +121,15 @@ fn largest_place(coefficients: &[i32], m: i32) -> usize
 
 // A block in its mean grey and its largest other coefficient, or why it is refused.
 pub fn summary(coefficients: &[i32]) -> BlockSummary
-    ensures { λ r. ⌜ spec.summarized r ≡ spec.summary-given (now (coefficients .entry)) ⌝ }
+    ensures { λ r. ⌜ spec.summarized r .answer ≡ job-returned (spec.summary-job (now (coefficients .entry))) ⌝ }
+    ensures { λ r. ⌜ spec.summarized r .given ≡ job-left (spec.summary-job (now (coefficients .entry))) ⌝ }
+    ensures { λ r. ⌜ now (coefficients .exit) ≡ now (coefficients .entry) ⌝ }
 {
     if coefficients.len() != PLACES {
         return BlockSummary::Lengths;
     }
-    let p = first_beyond(coefficients);
-    if p < PLACES {
+    if any_outside(coefficients, PLACES, -COEFFICIENT_LIMIT, COEFFICIENT_LIMIT) {
+        let p = first_outside(coefficients, PLACES, -COEFFICIENT_LIMIT, COEFFICIENT_LIMIT);
         return BlockSummary::Coefficient(p);
     }
     let mean = mean_grey(coefficients[0]);
@@ -140,7 +158,7 @@ pub fn answer(s: BlockSummary) -> Answer
 
 // 1 of a textured block, and 0 otherwise.
 pub fn textured(s: BlockSummary) -> u32
-    ensures { λ r. ⌜ r ≡ spec.summarized s .textured ⌝ }
+    ensures { λ r. ⌜ r ≡ spec.summarized s .given .textured ⌝ }
 {
     match s {
         BlockSummary::Lengths => 0,
@@ -151,7 +169,7 @@ pub fn textured(s: BlockSummary) -> u32
 }
 
 pub fn mean(s: BlockSummary) -> f32
-    ensures { λ r. ⌜ r ≡ spec.summarized s .mean ⌝ }
+    ensures { λ r. ⌜ r ≡ spec.summarized s .given .mean ⌝ }
 {
     match s {
         BlockSummary::Lengths => 0.0,
@@ -162,7 +180,7 @@ pub fn mean(s: BlockSummary) -> f32
 }
 
 pub fn largest(s: BlockSummary) -> f32
-    ensures { λ r. ⌜ r ≡ spec.summarized s .largest ⌝ }
+    ensures { λ r. ⌜ r ≡ spec.summarized s .given .largest ⌝ }
 {
     match s {
         BlockSummary::Lengths => 0.0,

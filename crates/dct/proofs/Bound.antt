@@ -17,7 +17,7 @@ use Rattle.ring.proofs.Product.{mul-left}
 use Rattle.ring.proofs.Components.{Eight}
 use Rattle.ring.proofs.Magnitude.{magnitudes-scale, magnitudes-sum, magnitudes-linear}
 use Rattle.ring.proofs.Ring.{mul-one}
-use Rattle.dct.specs.Transform.{factor, factors, element, Bounded}
+use Rattle.dct.specs.Transform.{factor, factors, factors-by, element, element-by, Bounded}
 use Rattle.dct.proofs.Factors.{eight-factor, eight-factors, factors-place, sum-digits}
 
 -- one dimension
@@ -51,7 +51,7 @@ weight : ℕ → ℕ → ℕ
 weight d p = sum 0 _+_ (8 ^ d) (λ q. magnitudes (factors d p q))
 
 weight-one : (p : ℕ) → weight 1 p ≤ 8
-unfolding weight factor-at factors
+unfolding weight factor-at factors-by
 weight-one p =
     rw (sum-cong 0 _+_ 8 (λ q. magnitudes (factors 1 p q)) (λ n. magnitudes (factor (p % 8) n)) (λ n h. ap magnitudes (only-factor n h)))
     (leb→le _ 8 (every-at 8 factor-at factor-test (p % 8) (mod-lt p (zero-lt-suc 7))))
@@ -68,15 +68,15 @@ weight-suc d p =
   where
     last-digit : (q : ℕ) → sum 0 _+_ 8 (λ n. magnitudes (factors (suc d) p (q * 8 + n))) ≤ 16 * magnitudes (factors d (p / 8) q)
     last-digit q =
-        rw (sum-cong 0 _+_ 8 _ (λ n. magnitudes (mul (factors d (p / 8) q) (factor (p % 8) n))) (λ n h. ap magnitudes (factors-place d p q n h)))
-        (times-factor (p % 8) (mod-lt p (zero-lt-suc 7)) (eight-factors d (p / 8) q))
+        rw (sum-cong 0 _+_ 8 _ (λ n. magnitudes (mul (factors d (p / 8) q) (factor (p % 8) n))) (λ n h. ap magnitudes (factors-place factor d p q n h)))
+        (times-factor (p % 8) (mod-lt p (zero-lt-suc 7)) (eight-factors eight-factor d (p / 8) q))
 
 weight-le : (d p : ℕ) → weight (suc d) p ≤ 8 * 16 ^ d
 weight-le zero p = weight-one p
 weight-le (suc d) p = rw (pow-suc 16 d) (omega (arith, weight-suc (suc d) p, weight-le d (p / 8)))
 
 pub bound : (d S : ℕ) (x : ℕ → ℤ) → Bounded (suc d) S x → (p : ℕ) → magnitudes (element (suc d) x p) ≤ S * (8 * 16 ^ d)
-unfolding element weight
+unfolding element-by weight
 bound d S x h p =
     le-trans (magnitudes-sum n (λ q. scale (x q) (factors (suc d) p q)))
     (le-trans (sum-le n _ (λ q. S * of q) (λ q k. rw (magnitudes-scale (x q) (factors (suc d) p q)) (mul-le-mul-right (of q) (h q k))))

@@ -12,7 +12,7 @@ use Rattle.integers.proofs.Sums.{integers, sum-cong, sum-map, sum-none}
 use Rattle.integers.proofs.Tests.{every-at, every₂, every₂-at, eqZ→≡}
 use Rattle.ring.specs.Element.{component, add, scale, cosine, mul}
 use Rattle.ring.proofs.Components.{component-add, component-scale}
-use Rattle.dct.specs.Transform.{angle, factor, double-sum, components-at, among}
+use Rattle.dct.specs.Transform.{angle, factor, double-sum, double-sum-by, components-at, among}
 use Rattle.dct.proofs.Factors.{angle-product, factor-product}
 
 -- component k of t(u,i) × t(v,j) is allowed or 0
@@ -42,7 +42,7 @@ product-zero u v i j k hu hv hi hj hk e =
     ∙ eqZ→≡ _ (pos 0) (or-false (among l k) (eqZ (component c k) (pos 0)) (every-at 8 (component-at l c) t k hk) e)
 
 pub zero-component : (x : ℕ → ℕ → ℤ) (u v k : ℕ) → u < 8 → v < 8 → k < 8 → among (components-at u v) k ≡ false → component (double-sum x u v) k ≡ pos 0
-unfolding double-sum
+unfolding double-sum-by
 zero-component x u v k hu hv hk e = sum-zero (λ i. sum [] add 8 (term i)) (λ i hi. sum-zero (term i) (λ j hj. term-zero i j hi hj))
   where
     term : ℕ → ℕ → List ℤ

@@ -18,7 +18,7 @@ use Rattle.ring.proofs.Product.{mul-left, mul-right}
 use Rattle.ring.proofs.Components.{Eight, eight-only}
 use Rattle.ring.proofs.Conjugates.{linear-conjugate, conjugate-product, conjugate-integer}
 use Rattle.dct.specs.Rows.{source, sign, conjugate-row, sources, signs}
-use Rattle.dct.specs.Transform.{factor, factors, element, step}
+use Rattle.dct.specs.Transform.{factor, factors, factors-by, element, element-by, step, step-by}
 use Rattle.dct.proofs.Factors.{eight-factor, eight-factors, factors-frequency, step-cong}
 
 source-test : T (every 8 (λ k. ltb (source k) 8))
@@ -39,7 +39,7 @@ unfolding factor-at
 factor-is k n h l = eqList→≡ _ _ (every₂-at 8 factor-at factor-test k n h l)
 
 pub conjugate-step : (r : ℕ → List ℤ) → ((n : ℕ) → n < 8 → Eight (r n)) → (k : ℕ) → k < 8 → conjugate-row (step r) k ≡ step (λ n. conjugate (r n)) k
-unfolding conjugate-row step
+unfolding conjugate-row step-by
 conjugate-step r eights k h =
     linear-sum (λ a. scale s (conjugate a)) (linear-after (linear-scale s) linear-conjugate) 8 (λ n. mul (r n) (t n)) ∙ sum-cong [] add 8 _ _ term
   where
@@ -56,16 +56,16 @@ conjugate-step r eights k h =
 
 pub conjugate-integers : (x : ℕ → ℤ) (k : ℕ) → k < 8 → conjugate-row (step (λ n. integer (x n))) k ≡ step (λ n. integer (x n)) k
 conjugate-integers x k h =
-    conjugate-step (λ n. integer (x n)) (λ n l. eight-only (x n) 0) k h ∙ step-cong (λ n. conjugate (integer (x n))) (λ n. integer (x n)) k (λ n l. conjugate-integer (x n))
+    conjugate-step (λ n. integer (x n)) (λ n l. eight-only (x n) 0) k h ∙ step-cong factor (λ n. conjugate (integer (x n))) (λ n. integer (x n)) k (λ n l. conjugate-integer (x n))
 
 -- in d dimensions: an element of a block is, up to its sign, the conjugate of another
 
 factors-are : (d p q : ℕ) → scale (signs d p) (conjugate (factors d (sources d p) q)) ≡ factors d p q
-unfolding signs sources factors
+unfolding signs sources factors-by
 factors-are zero p q = ap (scale (pos 1)) (conjugate-integer (pos 1)) ∙ scale-one (integer (pos 1))
 factors-are (suc d) p q =
-    ap (λ a. scale (s *ℤ t) (conjugate a)) (factors-frequency d (sources d (p / 8)) (source (p % 8)) q (source-below (p % 8) (omega arith)))
-    ∙ ap (scale (s *ℤ t)) (conjugate-product (eight-factors d (sources d (p / 8)) (q / 8)) (eight-factor (source (p % 8)) (q % 8)))
+    ap (λ a. scale (s *ℤ t) (conjugate a)) (factors-frequency factor d (sources d (p / 8)) (source (p % 8)) q (source-below (p % 8) (omega arith)))
+    ∙ ap (scale (s *ℤ t)) (conjugate-product (eight-factors eight-factor d (sources d (p / 8)) (q / 8)) (eight-factor (source (p % 8)) (q % 8)))
     ∙ sym (scale-scale s t (mul a b)) ∙ ap (scale s) (sym (mul-right a .multiples t b)) ∙ sym (mul-left (scale t b) .multiples s a)
     ∙ ap₂ mul (factors-are d (p / 8) (q / 8)) (factor-is (p % 8) (q % 8) (omega arith) (omega arith))
   where
@@ -82,7 +82,7 @@ factors-are (suc d) p q =
     b = conjugate (factor (source (p % 8)) (q % 8))
 
 pub conjugate-elements : (d : ℕ) (x : ℕ → ℤ) (p : ℕ) → scale (signs d p) (conjugate (element d x (sources d p))) ≡ element d x p
-unfolding element
+unfolding element-by
 conjugate-elements d x p =
     let L = linear-after (linear-scale (signs d p)) linear-conjugate in
     linear-sum (λ a. scale (signs d p) (conjugate a)) L (8 ^ d) (λ q. scale (x q) (factors d (sources d p) q))

@@ -11,82 +11,85 @@ use Rattle.integers.proofs.Sums.{sum-cong, sum-swap}
 use Rattle.ring.specs.Element.{add, scale, integer, cosine, mul}
 use Rattle.ring.proofs.Linear.{LinearMap, elements, linear-sum, linear-scale, scale-scale}
 use Rattle.ring.proofs.Product.{mul-left, mul-right, mul-comm, mul-swap}
-use Rattle.ring.proofs.Components.{eight-cosine}
+use Rattle.ring.proofs.Components.{Eight, eight-cosine}
 use Rattle.ring.proofs.Ring.{mul-one, mul-integer}
 use Rattle.ring.proofs.Cosines.{cosine-0}
-use Rattle.dct.specs.Transform.{factor, factors, element, double-sum, step}
+use Rattle.dct.specs.Transform.{factor, factors-by, element-by, double-sum, double-sum-by, step-by}
 use Rattle.dct.specs.T81.{twice-C, sixty-four-S}
-use Rattle.dct.proofs.Factors.{eight-factor, factors-place, sum-digits}
+use Rattle.dct.proofs.Factors.{factors-place, sum-digits}
 
--- the element of d + 1 dimensions: the d-dimensional elements of the eight parts along the last dimension, and then a step over them
-pub last-dimension : (d : ℕ) (x : ℕ → ℤ) (p : ℕ) → element (suc d) x p ≡ step (λ n. element d (λ q. x (q * 8 + n)) (p / 8)) (p % 8)
-unfolding element step
-last-dimension d x p =
-    sum-digits [] add elements d (λ q. scale (x q) (factors (suc d) p q))
-    ∙ sum-cong [] add (8 ^ d) _ _ (λ q h. sum-cong [] add 8 _ (λ n. term n q) (λ n l. item q n l))
-    ∙ sum-swap [] add elements (8 ^ d) 8 (λ q n. term n q)
-    ∙ sum-cong [] add 8 _ _ (λ n l. sym (linear-sum (λ a. mul a (t n)) (mul-left (t n)) (8 ^ d) (λ q. scale (x (q * 8 + n)) (factors d (p / 8) q))))
-  where
-    t : ℕ → List ℤ
-    t n = factor (p % 8) n
+-- any family
+module _ (f : ℕ → ℕ → List ℤ) where
+  -- the element of d + 1 dimensions: the d-dimensional elements of the eight parts along the last dimension, and then a step over them
+  pub last-dimension : (d : ℕ) (x : ℕ → ℤ) (p : ℕ) → element-by f (suc d) x p ≡ step-by f (λ n. element-by f d (λ q. x (q * 8 + n)) (p / 8)) (p % 8)
+  unfolding element-by step-by
+  last-dimension d x p =
+      sum-digits [] add elements d (λ q. scale (x q) (factors-by f (suc d) p q))
+      ∙ sum-cong [] add (8 ^ d) _ _ (λ q h. sum-cong [] add 8 _ (λ n. term n q) (λ n l. item q n l))
+      ∙ sum-swap [] add elements (8 ^ d) 8 (λ q n. term n q)
+      ∙ sum-cong [] add 8 _ _ (λ n l. sym (linear-sum (λ a. mul a (t n)) (mul-left (t n)) (8 ^ d) (λ q. scale (x (q * 8 + n)) (factors-by f d (p / 8) q))))
+    where
+      t : ℕ → List ℤ
+      t n = f (p % 8) n
 
-    term : ℕ → ℕ → List ℤ
-    term n q = mul (scale (x (q * 8 + n)) (factors d (p / 8) q)) (t n)
+      term : ℕ → ℕ → List ℤ
+      term n q = mul (scale (x (q * 8 + n)) (factors-by f d (p / 8) q)) (t n)
 
-    item : (q n : ℕ) → n < 8 → scale (x (q * 8 + n)) (factors (suc d) p (q * 8 + n)) ≡ term n q
-    item q n l = ap (scale (x (q * 8 + n))) (factors-place d p q n l) ∙ sym (mul-left (t n) .multiples (x (q * 8 + n)) (factors d (p / 8) q))
+      item : (q n : ℕ) → n < 8 → scale (x (q * 8 + n)) (factors-by f (suc d) p (q * 8 + n)) ≡ term n q
+      item q n l = ap (scale (x (q * 8 + n))) (factors-place f d p q n l) ∙ sym (mul-left (t n) .multiples (x (q * 8 + n)) (factors-by f d (p / 8) q))
 
--- one dimension: a step over whole numbers
+  pub double-sum-cong : (x y : ℕ → ℕ → ℤ) (u v : ℕ) → ((i j : ℕ) → i < 8 → j < 8 → x i j ≡ y i j) → double-sum-by f x u v ≡ double-sum-by f y u v
+  unfolding double-sum-by
+  double-sum-cong x y u v e =
+      sum-cong [] add 8 _ _ (λ i h. sum-cong [] add 8 _ _ (λ j l. ap (λ s. scale s (mul (f u i) (f v j))) (e i j h l)))
 
-pub first-dimension : (x : ℕ → ℤ) (k : ℕ) → k < 8 → element 1 x k ≡ step (λ n. integer (x n)) k
-unfolding element step factors
-first-dimension x k h = sum-cong [] add 8 _ _ (λ n l. ap (scale (x n)) (term n l) ∙ sym (mul-integer (x n) (eight-factor k n)))
-  where
-    term : (n : ℕ) → n < 8 → mul (integer (pos 1)) (factor (k % 8) (n % 8)) ≡ factor k n
-    term n l = rw (mod-eq-of-lt h, mod-eq-of-lt l) (mul-one (eight-factor k n))
+-- a family whose factors have all of their components
+module _ {f : ℕ → ℕ → List ℤ} (eights : (k n : ℕ) → Eight (f k n)) where
+  -- one dimension: a step over whole numbers
+  pub first-dimension : (x : ℕ → ℤ) (k : ℕ) → k < 8 → element-by f 1 x k ≡ step-by f (λ n. integer (x n)) k
+  unfolding element-by step-by factors-by
+  first-dimension x k h = sum-cong [] add 8 _ _ (λ n l. ap (scale (x n)) (term n l) ∙ sym (mul-integer (x n) (eights k n)))
+    where
+      term : (n : ℕ) → n < 8 → mul (integer (pos 1)) (f (k % 8) (n % 8)) ≡ f k n
+      term n l = rw (mod-eq-of-lt h, mod-eq-of-lt l) (mul-one (eights k n))
 
--- two dimensions
+  -- two dimensions
 
-two-factors : (u v i j : ℕ) → u < 8 → v < 8 → i < 8 → j < 8 → factors 2 (8 * u + v) (i * 8 + j) ≡ mul (factor u i) (factor v j)
-unfolding factors
-two-factors u v i j h k l m =
-    let p : (8 * u + v) / 8 ≡ u = omega arith in
-    let q : (8 * u + v) % 8 ≡ v = omega arith in
-    factors-place 1 (8 * u + v) i j m ∙ rw (p, q, mod-eq-of-lt h, mod-eq-of-lt l, mul-one (eight-factor u i))
+  two-factors : (u v i j : ℕ) → u < 8 → v < 8 → i < 8 → j < 8 → factors-by f 2 (8 * u + v) (i * 8 + j) ≡ mul (f u i) (f v j)
+  unfolding factors-by
+  two-factors u v i j h k l m =
+      let p : (8 * u + v) / 8 ≡ u = omega arith in
+      let q : (8 * u + v) % 8 ≡ v = omega arith in
+      factors-place f 1 (8 * u + v) i j m ∙ rw (p, q, mod-eq-of-lt h, mod-eq-of-lt l, mul-one (eights u i))
 
--- 01's double sum is the element of two dimensions, with sample (i,j) at index 8i+j and the element of (u,v) at number 8u+v
-pub element-double-sum : (x : ℕ → ℤ) (u v : ℕ) → u < 8 → v < 8 → element 2 x (8 * u + v) ≡ double-sum (λ i j. x (8 * i + j)) u v
-unfolding element double-sum
-element-double-sum x u v h k =
-    sum-digits [] add elements 1 (λ q. scale (x q) (factors 2 (8 * u + v) q))
-    ∙ sum-cong [] add 8 _ _ (λ i l. sum-cong [] add 8 _ _ (λ j m. ap₂ scale (ap x (ap (λ (a : ℕ). a + j) (times-comm i 8))) (two-factors u v i j h k l m)))
+  -- 01's double sum is the element of two dimensions, with sample (i,j) at index 8i+j and the element of (u,v) at number 8u+v
+  pub element-double-sum : (x : ℕ → ℤ) (u v : ℕ) → u < 8 → v < 8 → element-by f 2 x (8 * u + v) ≡ double-sum-by f (λ i j. x (8 * i + j)) u v
+  unfolding element-by double-sum-by
+  element-double-sum x u v h k =
+      sum-digits [] add elements 1 (λ q. scale (x q) (factors-by f 2 (8 * u + v) q))
+      ∙ sum-cong [] add 8 _ _ (λ i l. sum-cong [] add 8 _ _ (λ j m. ap₂ scale (ap x (ap (λ (a : ℕ). a + j) (times-comm i 8))) (two-factors u v i j h k l m)))
 
--- the same by the element's number
-pub element-by-number : (x : ℕ → ℤ) (p : ℕ) → p < 64 → element 2 x p ≡ double-sum (λ i j. x (8 * i + j)) (p / 8) (p % 8)
-element-by-number x p h =
-    let number : 8 * (p / 8) + p % 8 ≡ p = omega arith in
-    rw number at (element-double-sum x (p / 8) (p % 8) (omega arith) (omega arith))
+  -- the same by the element's number
+  pub element-by-number : (x : ℕ → ℤ) (p : ℕ) → p < 64 → element-by f 2 x p ≡ double-sum-by f (λ i j. x (8 * i + j)) (p / 8) (p % 8)
+  element-by-number x p h =
+      let number : 8 * (p / 8) + p % 8 ≡ p = omega arith in
+      rw number at (element-double-sum x (p / 8) (p % 8) (omega arith) (omega arith))
 
-pub double-sum-cong : (x y : ℕ → ℕ → ℤ) (u v : ℕ) → ((i j : ℕ) → i < 8 → j < 8 → x i j ≡ y i j) → double-sum x u v ≡ double-sum y u v
-unfolding double-sum
-double-sum-cong x y u v e =
-    sum-cong [] add 8 _ _ (λ i h. sum-cong [] add 8 _ _ (λ j l. ap (λ s. scale s (mul (factor u i) (factor v j))) (e i j h l)))
+  -- columns, then rows: a step down each column j, and then a step across
+  pub columns-then-rows : (x : ℕ → ℕ → ℤ) (u v : ℕ) → double-sum-by f x u v ≡ step-by f (λ j. step-by f (λ i. integer (x i j)) u) v
+  unfolding double-sum-by step-by
+  columns-then-rows x u v = sum-swap [] add elements 8 8 term ∙ sum-cong [] add 8 _ _ (λ j h. sym (column j))
+    where
+      term : ℕ → ℕ → List ℤ
+      term i j = scale (x i j) (mul (f u i) (f v j))
 
--- columns, then rows: a step down each column j, and then a step across
-pub columns-then-rows : (x : ℕ → ℕ → ℤ) (u v : ℕ) → double-sum x u v ≡ step (λ j. step (λ i. integer (x i j)) u) v
-unfolding double-sum step
-columns-then-rows x u v = sum-swap [] add elements 8 8 term ∙ sum-cong [] add 8 _ _ (λ j h. sym (column j))
-  where
-    term : ℕ → ℕ → List ℤ
-    term i j = scale (x i j) (mul (factor u i) (factor v j))
+      item : (i j : ℕ) → mul (mul (integer (x i j)) (f u i)) (f v j) ≡ term i j
+      item i j = ap (λ a. mul a (f v j)) (mul-integer (x i j) (eights u i)) ∙ mul-left (f v j) .multiples (x i j) (f u i)
 
-    item : (i j : ℕ) → mul (mul (integer (x i j)) (factor u i)) (factor v j) ≡ term i j
-    item i j = ap (λ a. mul a (factor v j)) (mul-integer (x i j) (eight-factor u i)) ∙ mul-left (factor v j) .multiples (x i j) (factor u i)
-
-    column : (j : ℕ) → mul (sum [] add 8 (λ i. mul (integer (x i j)) (factor u i))) (factor v j) ≡ sum [] add 8 (λ i. term i j)
-    column j =
-        linear-sum (λ a. mul a (factor v j)) (mul-left (factor v j)) 8 (λ i. mul (integer (x i j)) (factor u i))
-        ∙ sum-cong [] add 8 _ _ (λ i h. item i j)
+      column : (j : ℕ) → mul (sum [] add 8 (λ i. mul (integer (x i j)) (f u i))) (f v j) ≡ sum [] add 8 (λ i. term i j)
+      column j =
+          linear-sum (λ a. mul a (f v j)) (mul-left (f v j)) 8 (λ i. mul (integer (x i j)) (f u i))
+          ∙ sum-cong [] add 8 _ _ (λ i h. item i j)
 
 -- T.81
 
@@ -104,7 +107,7 @@ linear-double-sum L l f = linear-sum L l 8 (λ i. sum [] add 8 (f i)) ∙ sum-co
 
 -- four times the element is 64 times T.81's S(u,v): the element is 16 times the DCT value
 pub sixteen-times-dct : (x : ℕ → ℕ → ℤ) (u v : ℕ) → scale (pos 4) (double-sum x u v) ≡ sixty-four-S x u v
-unfolding double-sum sixty-four-S
+unfolding double-sum-by sixty-four-S
 sixteen-times-dct x u v =
     linear-double-sum (scale (pos 4)) (linear-scale (pos 4)) (λ i j. scale (x i j) (factor-pair i j))
     ∙ sum-cong [] add 8 _ _ (λ i h. sum-cong [] add 8 _ _ (λ j k. item i j))

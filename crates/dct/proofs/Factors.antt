@@ -12,41 +12,27 @@ use Rattle.ring.specs.Element.{add, scale, cosine, mul}
 use Rattle.ring.proofs.Components.{Eight, eight-only, eight-cosine, eight-scale, eight-sum, eight-mul}
 use Rattle.ring.proofs.Cosines.{cosine-product}
 use Rattle.ring.proofs.Linear.{linear-scale, linear-sum, scale-scale}
-use Rattle.dct.specs.Transform.{angle, factor, factors, element, step}
+use Rattle.dct.specs.Transform.{angle, factor, factors-by, element-by, step-by}
 
 pub eight-factor : (k n : ℕ) → Eight (factor k n)
 unfolding factor
 eight-factor k n = eight-cosine (pos (angle k n))
 
-pub eight-factors : (d p q : ℕ) → Eight (factors d p q)
-unfolding factors
-eight-factors zero p q = eight-only (pos 1) 0
-eight-factors (suc d) p q = eight-mul (eight-factors d (p / 8) (q / 8)) (eight-factor (p % 8) (q % 8))
+-- a family whose factors have all of their components
+module _ {f : ℕ → ℕ → List ℤ} (eights : (k n : ℕ) → Eight (f k n)) where
+  pub eight-factors : (d p q : ℕ) → Eight (factors-by f d p q)
+  unfolding factors-by
+  eight-factors zero p q = eight-only (pos 1) 0
+  eight-factors (suc d) p q = eight-mul (eight-factors d (p / 8) (q / 8)) (eights (p % 8) (q % 8))
 
--- a block has at least one sample
-some-sample : (d : ℕ) → 0 < 8 ^ d
-some-sample d = one-le-pow d 8 (zero-lt-suc 7)
+  -- a block has at least one sample
+  pub eight-element : (d : ℕ) (x : ℕ → ℤ) (p : ℕ) → Eight (element-by f d x p)
+  unfolding element-by
+  eight-element d x p = eight-sum (8 ^ d) _ (one-le-pow d 8 (zero-lt-suc 7)) (λ q h. eight-scale (x q) (eight-factors d p q))
 
-pub eight-element : (d : ℕ) (x : ℕ → ℤ) (p : ℕ) → Eight (element d x p)
-unfolding element
-eight-element d x p = eight-sum (8 ^ d) (λ q. scale (x q) (factors d p q)) (some-sample d) (λ q h. eight-scale (x q) (eight-factors d p q))
-
--- a block whose samples are s times those of another has s times its elements
-pub element-multiple : (d : ℕ) (s : ℤ) (x y : ℕ → ℤ) → ((q : ℕ) → q < 8 ^ d → y q ≡ s *ℤ x q) → (p : ℕ) → element d y p ≡ scale s (element d x p)
-unfolding element
-element-multiple d s x y same p =
-    sum-cong [] add (8 ^ d) _ _ (λ q h. ap (λ z. scale z (factors d p q)) (same q h) ∙ sym (scale-scale s (x q) (factors d p q)))
-    ∙ sym (linear-sum (scale s) (linear-scale s) (8 ^ d) (λ q. scale (x q) (factors d p q)))
-
--- the step of a row
-
-pub eight-step : (r : ℕ → List ℤ) → ((n : ℕ) → n < 8 → Eight (r n)) → (k : ℕ) → Eight (step r k)
-unfolding step
-eight-step r e k = eight-sum 8 _ (zero-lt-suc 7) (λ n h. eight-mul (e n h) (eight-factor k n))
-
-pub step-cong : (r s : ℕ → List ℤ) (k : ℕ) → ((n : ℕ) → n < 8 → r n ≡ s n) → step r k ≡ step s k
-unfolding step
-step-cong r s k e = sum-cong [] add 8 _ _ (λ n h. ap (λ a. mul a (factor k n)) (e n h))
+  pub eight-step : (r : ℕ → List ℤ) → ((n : ℕ) → n < 8 → Eight (r n)) → (k : ℕ) → Eight (step-by f r k)
+  unfolding step-by
+  eight-step r e k = eight-sum 8 _ (zero-lt-suc 7) (λ n h. eight-mul (e n h) (eights k n))
 
 -- the product of two factors by their angles: a computed test of it multiplies nothing out
 unfoldable pub angle-product : ℕ → ℕ → List ℤ
@@ -64,13 +50,26 @@ div-digit a b h = omega arith
 mod-digit : (a b : ℕ) → b < 8 → (a * 8 + b) % 8 ≡ b
 mod-digit a b h = omega arith
 
-pub factors-frequency : (d p k q : ℕ) → k < 8 → factors (suc d) (p * 8 + k) q ≡ mul (factors d p (q / 8)) (factor k (q % 8))
-unfolding factors
-factors-frequency d p k q h = rw (div-digit p k h, mod-digit p k h)
+-- any family
+module _ (f : ℕ → ℕ → List ℤ) where
+  pub factors-frequency : (d p k q : ℕ) → k < 8 → factors-by f (suc d) (p * 8 + k) q ≡ mul (factors-by f d p (q / 8)) (f k (q % 8))
+  unfolding factors-by
+  factors-frequency d p k q h = rw (div-digit p k h, mod-digit p k h)
 
-pub factors-place : (d p q n : ℕ) → n < 8 → factors (suc d) p (q * 8 + n) ≡ mul (factors d (p / 8) q) (factor (p % 8) n)
-unfolding factors
-factors-place d p q n h = rw (div-digit q n h, mod-digit q n h)
+  pub factors-place : (d p q n : ℕ) → n < 8 → factors-by f (suc d) p (q * 8 + n) ≡ mul (factors-by f d (p / 8) q) (f (p % 8) n)
+  unfolding factors-by
+  factors-place d p q n h = rw (div-digit q n h, mod-digit q n h)
+
+  -- a block whose samples are s times those of another has s times its elements
+  pub element-multiple : (d : ℕ) (s : ℤ) (x y : ℕ → ℤ) → ((q : ℕ) → q < 8 ^ d → y q ≡ s *ℤ x q) → (p : ℕ) → element-by f d y p ≡ scale s (element-by f d x p)
+  unfolding element-by
+  element-multiple d s x y same p =
+      sum-cong [] add (8 ^ d) _ _ (λ q h. ap (λ z. scale z (factors-by f d p q)) (same q h) ∙ sym (scale-scale s (x q) (factors-by f d p q)))
+      ∙ sym (linear-sum (scale s) (linear-scale s) (8 ^ d) (λ q. scale (x q) (factors-by f d p q)))
+
+  pub step-cong : (r s : ℕ → List ℤ) (k : ℕ) → ((n : ℕ) → n < 8 → r n ≡ s n) → step-by f r k ≡ step-by f s k
+  unfolding step-by
+  step-cong r s k e = sum-cong [] add 8 _ _ (λ n h. ap (λ a. mul a (f k n)) (e n h))
 
 -- a sum over all indices of d + 1 dimensions goes by their first d digits, and then the last
 module _ {A : Type 0} (none : A) (plus : A → A → A) (M : CommutativeMonoid none plus) where

@@ -9,15 +9,15 @@ use Rattle.integers.proofs.Integer.{+ℤ-*ℤ}
 use Rattle.integers.proofs.Sums.{sum-cong, sum-map}
 use Rattle.ring.specs.Element.{component, add, scale, integer, cosine, basis-product, mul}
 use Rattle.ring.proofs.Components.{component-add, component-scale}
-use Rattle.dct.specs.Transform.{factor, factors, element}
+use Rattle.dct.specs.Transform.{factor, factors, factors-by, element, element-by}
 
 -- c_4 × c_4 = 2, whichever the sample
 first-factors : (q : ℕ) → factors 2 0 q ≡ integer (pos 2)
-unfolding factors factor cosine mul basis-product
+unfolding factors-by factor cosine mul basis-product
 first-factors q = refl
 
 pub first-element : (x : ℕ → ℤ) (k : ℕ) → component (element 2 x 0) k ≡ sum (pos 0) _+ℤ_ (8 ^ 2) x *ℤ component (integer (pos 2)) k
-unfolding element
+unfolding element-by
 first-element x k =
     let two = component (integer (pos 2)) k in
     sum-map [] add (pos 0) _+ℤ_ (λ a. component a k) refl (λ a b. component-add a b k) (8 ^ 2) (λ q. scale (x q) (factors 2 0 q))

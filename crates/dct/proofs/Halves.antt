@@ -15,7 +15,7 @@ use Rattle.integers.proofs.Tests.{every₂, every₂-at, eqList→≡}
 use Rattle.ring.specs.Element.{add, scale, negate, subtract, cosine, mul}
 use Rattle.ring.proofs.Linear.{elements, scale-one}
 use Rattle.ring.proofs.Product.{mul-left, mul-right}
-use Rattle.dct.specs.Transform.{factor, step, half-step, mirror-sign}
+use Rattle.dct.specs.Transform.{factor, step, step-by, half-step, mirror-sign}
 
 -- a mirrored row: t(k,7-n) is t(k,n) for even k, and its negative for odd k
 
@@ -57,7 +57,7 @@ module _ (x : ℕ → List ℤ) (k : ℕ) (s : ℤ) (mirrored : (n : ℕ) → n 
   last-four = sum-cong [] add 4 _ _ (λ n h. ap term (omega arith)) ∙ sym (sum-reverse [] add elements 4 (λ n. term (4 + n)))
 
   butterfly : half-step (λ n. add (x n) (scale s (x (7 - n)))) k ≡ step x k
-  unfolding half-step step term
+  unfolding half-step step-by term
   butterfly =
       sum-cong [] add 4 _ _ both ∙ sum-plus [] add elements 4 term (λ n. term (7 - n)) ∙ ap (add (sum [] add 4 term)) last-four
       ∙ sym (sum-append [] add elements 4 4 term)

@@ -23,7 +23,7 @@ use Rattle.ring.proofs.Components.{Eight, eight-cosine, eight-mul, component-ad
 use Rattle.ring.proofs.Ring.{mul-integer}
 use Rattle.ring.proofs.Dots.{dot-negate, constant-product, dot-cosine}
 use Rattle.dct.specs.Inverse.{step-back, integer-back, half-back, known-frequency, known-component, weights, weighted}
-use Rattle.dct.specs.Transform.{angle, factor, step}
+use Rattle.dct.specs.Transform.{angle, factor, step, step-by}
 use Rattle.dct.proofs.Factors.{eight-factor, eight-step}
 use Rattle.dct.proofs.Inverse.{row-inverse}
 use Rattle.dct.proofs.Halves.{even-mirrored, odd-mirrored}
@@ -96,7 +96,7 @@ module _ (x : ℕ → List ℤ) (eights : (n : ℕ) → n < 8 → Eight (x n)) (
   c = cosine (pos k)
 
   times-step : (v : ℕ) → mul c (step x v) ≡ step (λ n. mul c (x n)) v
-  unfolding step
+  unfolding step-by
   times-step v =
       linear-sum (mul c) (mul-right c) 8 (λ n. mul (x n) (factor v n)) ∙ sum-cong [] add 8 _ _ (λ n l. sym (mul-assoc c (x n) (factor v n)))
 
@@ -107,7 +107,7 @@ module _ (x : ℕ → List ℤ) (eights : (n : ℕ) → n < 8 → Eight (x n)) (
   pub integer-inverse : (n : ℕ) → n < 8 → integer-back (λ v. mul c (step x v)) n ≡ pos 16 *ℤ component (x n) k
   unfolding step-back
   integer-inverse n l = *ℤ-cancel (zero-lt-suc 1) (
-      twice (λ v. mul c (step x v)) (λ v b. eight-mul (eight-cosine (pos k)) (eight-step x eights v)) n l
+      twice (λ v. mul c (step x v)) (λ v b. eight-mul (eight-cosine (pos k)) (eight-step eight-factor x eights v)) n l
       ∙ ap (λ a. component a 0) (sum-cong [] add 8 _ _ (λ v b. ap (λ a. mul a (factor v n)) (times-step v))
       ∙ row-inverse (λ n. mul c (x n)) (λ n b. eight-mul (eight-cosine (pos k)) (eights n b)) n l)
       ∙ component-scale (pos 16) (mul c (x n)) 0 ∙ ap (λ (z : ℤ). pos 16 *ℤ z) (constant n l) ∙ exchange (pos 16) (pos 2) (component (x n) k))
@@ -132,9 +132,9 @@ eightfold-test = tt
 
 pub column-restored : (x : ℕ → ℤ) (n : ℕ) → n < 8
     → weighted (λ k. component (step (λ i. integer (x i)) (known-frequency k)) (known-component k)) n ≡ pos 8 *ℤ x n
-unfolding weighted step known eightfold-at
+unfolding weighted step-by known eightfold-at
 column-restored x n h =
-    sum-cong (pos 0) _+ℤ_ 8 _ _ (λ k l. ap (λ (z : ℤ). w k *ℤ z) (frequency k) ∙ sum-map (pos 0) _+ℤ_ (pos 0) _+ℤ_ (λ z. w k *ℤ z) (*ℤ-zero (w k)) (*ℤ-+ℤ (w k)) 8 (λ i. x i *ℤ known i k))
+    sum-cong (pos 0) _+ℤ_ 8 _ _ (λ k l. spread k)
     ∙ sum-swap (pos 0) _+ℤ_ integers 8 8 (λ k i. w k *ℤ (x i *ℤ known i k)) ∙ sum-cong (pos 0) _+ℤ_ 8 _ _ (λ i l. gathered i)
     ∙ sum-only (pos 0) _+ℤ_ integers 8 (λ i. x i *ℤ all i) n h (λ i l d. ap (λ (z : ℤ). x i *ℤ z) (all-is i l ∙ rw (ne-eqb i n d)) ∙ *ℤ-zero (x i))
     ∙ ap (λ (z : ℤ). x n *ℤ z) (all-is n h ∙ rw (eq-eqb n n refl)) ∙ *ℤ-comm (x n) (pos 8)
@@ -159,3 +159,8 @@ column-restored x n h =
         (λ i. mul (integer (x i)) (factor (known-frequency k) i))
         ∙ sum-cong (pos 0) _+ℤ_ 8 _ _ (λ i l. ap (λ a. component a (known-component k)) (mul-integer (x i) (eight-factor (known-frequency k) i))
         ∙ component-scale (x i) (factor (known-frequency k) i) (known-component k))
+
+    spread : (k : ℕ) → w k *ℤ component (step (λ i. integer (x i)) (known-frequency k)) (known-component k) ≡ total 8 (λ i. w k *ℤ (x i *ℤ known i k))
+    spread k =
+        ap (λ (z : ℤ). w k *ℤ z) (frequency k)
+        ∙ sum-map (pos 0) _+ℤ_ (pos 0) _+ℤ_ (λ z. w k *ℤ z) (*ℤ-zero (w k)) (*ℤ-+ℤ (w k)) 8 (λ i. x i *ℤ known i k)

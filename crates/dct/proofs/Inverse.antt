@@ -16,8 +16,8 @@ use Rattle.ring.proofs.Product.{mul-left, mul-right, mul-comm, mul-assoc}
 use Rattle.ring.proofs.Components.{Eight, eight-only, eight-scale, eight-sum, component-add, component-scale, same-components}
 use Rattle.ring.proofs.Ring.{mul-integer, scale-integer}
 use Rattle.dct.specs.Inverse.{summed-back, step-back}
-use Rattle.dct.specs.Transform.{factor, factors, element, step}
-use Rattle.dct.proofs.Factors.{eight-factors}
+use Rattle.dct.specs.Transform.{factor, factors, element, element-by, step, step-by}
+use Rattle.dct.proofs.Factors.{eight-factor, eight-factors}
 use Rattle.dct.proofs.Orthogonal.{gram, delta, delta-same, delta-other, row-gram, row-gram-is, orthogonal}
 
 -- a matrix t that is orthogonal as the factors are: it takes elements x to others, and its transpose takes these to 16^d × x
@@ -58,15 +58,15 @@ module _ (d n : ℕ) (t : ℕ → ℕ → List ℤ) (gram-is : (q r : ℕ) → q
 
 -- a row of elements
 pub row-inverse : (x : ℕ → List ℤ) → ((n : ℕ) → n < 8 → Eight (x n)) → (n : ℕ) → n < 8 → step-back (step x) n ≡ scale (pos 16) (x n)
-unfolding step-back step row-gram
+unfolding step-back step-by row-gram
 row-inverse x eights n h = forth-and-back 1 8 factor row-gram-is x eights n h
 
 -- a block of samples
 pub inverse : (d : ℕ) (x : ℕ → ℤ) (r : ℕ) → r < 8 ^ d → summed-back d (element d x) r ≡ integer (pos (16 ^ d) *ℤ x r)
-unfolding summed-back element gram
+unfolding summed-back element-by gram
 inverse d x r h =
     sum-cong [] add (8 ^ d) _ _
-    (λ p k. ap (λ a. mul a (factors d p r)) (sum-cong [] add (8 ^ d) _ _ (λ q l. sym (mul-integer (x q) (eight-factors d p q)))))
+    (λ p k. ap (λ a. mul a (factors d p r)) (sum-cong [] add (8 ^ d) _ _ (λ q l. sym (mul-integer (x q) (eight-factors eight-factor d p q)))))
     ∙ forth-and-back d (8 ^ d) (factors d) (orthogonal d) (λ q. integer (x q)) (λ q k. eight-only (x q) 0) r h ∙ scale-integer (pos (16 ^ d)) (x r)
 
 -- two blocks with the same elements are the same block

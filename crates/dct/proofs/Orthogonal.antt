@@ -19,7 +19,7 @@ use Rattle.ring.proofs.Linear.{elements, linear-sum}
 use Rattle.ring.proofs.Product.{mul-left, mul-right, mul-swap}
 use Rattle.ring.proofs.Components.{eight-only}
 use Rattle.ring.proofs.Ring.{mul-one, mul-integer, scale-integer}
-use Rattle.dct.specs.Transform.{angle, factor, factors}
+use Rattle.dct.specs.Transform.{angle, factor, factors, factors-by}
 use Rattle.dct.proofs.Factors.{angle-product, factor-product, factors-frequency, sum-digits}
 
 -- the sum over all indices p of the factors at place q × the factors at place r: the entries of the factors' Gram matrix
@@ -81,7 +81,7 @@ module _ (d q r : ℕ) where
   unfolding both row-gram
   last-digit p =
       sum-cong [] add 8 _ (λ k. mul (both p) (mul (factor k (q % 8)) (factor k (r % 8))))
-      (λ k h. ap₂ mul (factors-frequency d p k q h) (factors-frequency d p k r h) ∙ mul-swap (factors d p (q / 8)) (factor k (q % 8)) (factors d p (r / 8)) (factor k (r % 8)))
+      (λ k h. ap₂ mul (factors-frequency factor d p k q h) (factors-frequency factor d p k r h) ∙ mul-swap (factors d p (q / 8)) (factor k (q % 8)) (factors d p (r / 8)) (factor k (r % 8)))
       ∙ sym (linear-sum (mul (both p)) (mul-right (both p)) 8 (λ k. mul (factor k (q % 8)) (factor k (r % 8))))
 
   gram-suc : gram (suc d) q r ≡ mul (gram d (q / 8) (r / 8)) (row-gram (q % 8) (r % 8))
@@ -93,7 +93,7 @@ module _ (d q r : ℕ) where
       ∙ sym (linear-sum (λ a. mul a g) (mul-left g) (8 ^ d) both)
 
 pub orthogonal : (d q r : ℕ) → q < 8 ^ d → r < 8 ^ d → gram d q r ≡ integer (delta d q r)
-unfolding sum gram factors
+unfolding sum gram factors-by
 orthogonal zero q r h k = mul-one (eight-only (pos 1) 0) ∙ sym (ap integer (delta-same 0 q r (omega arith)))
 orthogonal (suc d) q r h k =
     let last = delta 1 (q % 8) (r % 8) in

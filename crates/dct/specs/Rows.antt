@@ -4,12 +4,16 @@ use Prim.Native.Nat.{ℕ, zero, suc, _+_, _*_, _/_, _%_}
 use lib.IntN.{ℤ, pos, negsuc, _*ℤ_}
 use lib.ListN.{getD}
 use Rattle.integers.specs.Sum.{sum}
-use Rattle.ring.specs.Element.{component, add, scale, cosine}
+use Rattle.ring.specs.Element.{component, add, scale, only}
 use Rattle.ring.specs.Maps.{conjugate}
 
--- what is left of an element where only its components k 0 to k (m - 1) count, none of which is component 0
+-- the number that component k counts: 1 for component 0, and c_k for the others
+abbrev pub unit : ℕ → List ℤ
+unit k = only (pos 1) k
+
+-- what is left of an element where only its components k 0 to k (m - 1) count
 unfoldable pub restricted : ℕ → (ℕ → ℕ) → List ℤ → List ℤ
-restricted m k a = sum [] add m (λ i. scale (component a (k i)) (cosine (pos (k i))))
+restricted m k a = sum [] add m (λ i. scale (component a (k i)) (unit (k i)))
 
 -- the components of the frequencies 0 and 4 of whole numbers, which are c_4 alone, of 2 and 6, and of the odd ones
 abbrev pub fours : ℕ → ℕ

@@ -27,24 +27,41 @@ odd k = eqb (k % 2) 1
 abbrev pub mirror-sign : ℕ → ℤ
 mirror-sign k = cond (odd k) (negsuc 0) (pos 1)
 
+-- by any family f of factors, f(k,n) for frequency k and place n
+
 -- the product of the factors along d dimensions, of the frequencies in p and the places in q
-unfoldable pub factors : ℕ → ℕ → ℕ → List ℤ
-factors zero p q = integer (pos 1)
-factors (suc d) p q = mul (factors d (p / 8) (q / 8)) (factor (p % 8) (q % 8))
+unfoldable pub factors-by : (ℕ → ℕ → List ℤ) → ℕ → ℕ → ℕ → List ℤ
+factors-by f zero p q = integer (pos 1)
+factors-by f (suc d) p q = mul (factors-by f d (p / 8) (q / 8)) (f (p % 8) (q % 8))
 
 -- the exact element of the block x at index p: the sum over all samples of sample × factors
-unfoldable pub element : ℕ → (ℕ → ℤ) → ℕ → List ℤ
-element d x p = sum [] add (8 ^ d) (λ q. scale (x q) (factors d p q))
+unfoldable pub element-by : (ℕ → ℕ → List ℤ) → ℕ → (ℕ → ℤ) → ℕ → List ℤ
+element-by f d x p = sum [] add (8 ^ d) (λ q. scale (x q) (factors-by f d p q))
 
--- 01's own words for two dimensions: the element at (u,v) is the sum over all i, j of x(i,j) × t(u,i) × t(v,j)
-unfoldable pub double-sum : (ℕ → ℕ → ℤ) → ℕ → ℕ → List ℤ
-double-sum x u v = sum [] add 8 (λ i. sum [] add 8 (λ j. scale (x i j) (mul (factor u i) (factor v j))))
+-- two dimensions as a double sum: over all i, j of x(i,j) × f(u,i) × f(v,j)
+unfoldable pub double-sum-by : (ℕ → ℕ → List ℤ) → (ℕ → ℕ → ℤ) → ℕ → ℕ → List ℤ
+double-sum-by f x u v = sum [] add 8 (λ i. sum [] add 8 (λ j. scale (x i j) (mul (f u i) (f v j))))
 
 -- the 8-point step as a plain sum: the element of frequency k that the elements r 0 to r 7 of one row give
-unfoldable pub step : (ℕ → List ℤ) → ℕ → List ℤ
-step r k = sum [] add 8 (λ n. mul (r n) (factor k n))
+unfoldable pub step-by : (ℕ → ℕ → List ℤ) → (ℕ → List ℤ) → ℕ → List ℤ
+step-by f r k = sum [] add 8 (λ n. mul (r n) (f k n))
 
--- its first four terms, which a factorised step makes of sums and differences of a row's elements
+-- by t
+
+abbrev pub factors : ℕ → ℕ → ℕ → List ℤ
+factors = factors-by factor
+
+abbrev pub element : ℕ → (ℕ → ℤ) → ℕ → List ℤ
+element = element-by factor
+
+-- 01's own words for two dimensions: the element at (u,v) is the sum over all i, j of x(i,j) × t(u,i) × t(v,j)
+abbrev pub double-sum : (ℕ → ℕ → ℤ) → ℕ → ℕ → List ℤ
+double-sum = double-sum-by factor
+
+abbrev pub step : (ℕ → List ℤ) → ℕ → List ℤ
+step = step-by factor
+
+-- the first four terms of a step, which a factorised step makes of sums and differences of a row's elements
 unfoldable pub half-step : (ℕ → List ℤ) → ℕ → List ℤ
 half-step r k = sum [] add 4 (λ n. mul (r n) (factor k n))
 

@@ -7,58 +7,60 @@ use native.Mathlib.Omega.{arith}
 use lib.Dec.{lit<}
 use lib.IntN.{ℤ, pos, _*ℤ_}
 use lib.ListN.{length, getD}
+use Rattle.integers.proofs.Ranges.{inside-small}
 use Rattle.integers.proofs.Tables.{getD-table, length-table}
 use Rattle.limits.specs.Limits.{places-in, components-in, sample-limit, magnitudes-limit-in}
-use Rattle.limits.proofs.Range.{in-range-small}
 use Rattle.ring.specs.Element.{component, integer, magnitudes}
 use Rattle.ring.proofs.Components.{Eight, eight-only}
-use Rattle.dct.specs.Transform.{element, Bounded}
-use Rattle.dct.proofs.Factors.{eight-element, eight-step}
+use Rattle.dct.specs.Transform.{factor, element-by, Bounded}
+use Rattle.dct.proofs.Factors.{eight-factor, eight-element, eight-step}
 use Rattle.dct.proofs.Bound.{bound}
 use Rattle.dct.proofs.First.{first-element}
 use Rattle.elements.specs.Buffer.{element-at}
 use Rattle.elements.proofs.Buffers.{element-stored}
-use Rattle.element_sets.specs.Sets.{sample, block-sum, AllInRange, elements-of, frequencies, AcceptedSet}
+use Rattle.element_sets.specs.Sets.{sample, block-sum, AllInRange, elements-by, elements-of, frequencies, AcceptedSet}
 
-module _ (d : ℕ) (x : List ℤ) where
-  pub length-elements : length (elements-of d x) ≡ components-in d
-  unfolding elements-of
-  length-elements = length-table (components-in d) (λ i. component (element d (sample x) (i / 8)) (i % 8))
+-- by any family of factors
+module _ (f : ℕ → ℕ → List ℤ) (d : ℕ) (x : List ℤ) where
+  pub length-elements : length (elements-by f d x) ≡ components-in d
+  unfolding elements-by
+  length-elements = length-table (components-in d) (λ i. component (element-by f d (sample x) (i / 8)) (i % 8))
 
   -- component k of element p stands at index 8p + k
-  pub component-of : (p k : ℕ) → p < places-in d → k < 8 → getD (elements-of d x) (8 * p + k) (pos 0) ≡ component (element d (sample x) p) k
-  unfolding elements-of
+  pub component-of : (p k : ℕ) → p < places-in d → k < 8 → getD (elements-by f d x) (8 * p + k) (pos 0) ≡ component (element-by f d (sample x) p) k
+  unfolding elements-by
   component-of p k h l =
       let q : (8 * p + k) / 8 ≡ p = omega arith in
       let r : (8 * p + k) % 8 ≡ k = omega arith in
-      getD-table (components-in d) (λ i. component (element d (sample x) (i / 8)) (i % 8)) (pos 0) (8 * p + k) (omega arith) ∙ rw (q, r)
+      getD-table (components-in d) (λ i. component (element-by f d (sample x) (i / 8)) (i % 8)) (pos 0) (8 * p + k) (omega arith) ∙ rw (q, r)
 
-  -- element p of the buffer is the block's
-  pub element-of : (p : ℕ) → p < places-in d → element-at (elements-of d x) p ≡ element d (sample x) p
-  unfolding elements-of
-  element-of p h = element-stored (element d (sample x)) p h (eight-element d (sample x) p)
+-- element p of the buffer is the block's
+pub element-of : {f : ℕ → ℕ → List ℤ} → ((k n : ℕ) → Eight (f k n)) → (d : ℕ) (x : List ℤ) (p : ℕ) → p < places-in d
+    → element-at (elements-by f d x) p ≡ element-by f d (sample x) p
+unfolding elements-by
+element-of {f} eights d x p h = element-stored (element-by f d (sample x)) p h (eight-element eights d (sample x) p)
 
 -- the first element of a block is twice the sum of its samples
 pub first-component : (x : List ℤ) (k : ℕ) → component (element-at (elements-of 2 x) 0) k ≡ block-sum x *ℤ component (integer (pos 2)) k
-first-component x k = ap (λ u. component u k) (element-of 2 x 0 (lit< tt)) ∙ first-element (sample x) k
+first-component x k = ap (λ u. component u k) (element-of eight-factor 2 x 0 (lit< tt)) ∙ first-element (sample x) k
 
 -- the samples of a column
 abbrev pub column : List ℤ → ℕ → ℕ → ℤ
 column x j i = sample x (8 * i + j)
 
 pub eight-frequencies : (x : List ℤ) (j u : ℕ) → Eight (frequencies x j u)
-eight-frequencies x j u = eight-step (λ i. integer (column x j i)) (λ i h. eight-only (column x j i) 0) u
+eight-frequencies x j u = eight-step eight-factor (λ i. integer (column x j i)) (λ i h. eight-only (column x j i) 0) u
 
 pub samples-small : {d : ℕ} {x : List ℤ} → AllInRange d x → Bounded d sample-limit (sample x)
-samples-small {d} {x} range q h = in-range-small (sample-limit - 1) (sample x q) (range .at q h)
+samples-small {d} {x} range q h = inside-small (sample-limit - 1) (sample x q) (range .at q h)
 
 -- "the magnitudes of an element's eight components sum to at most" the limit
 pub magnitudes-of : (d : ℕ) (x : List ℤ) → AllInRange (suc d) x → (p : ℕ) → p < places-in (suc d)
     → magnitudes (element-at (elements-of (suc d) x) p) ≤ magnitudes-limit-in sample-limit (suc d)
 magnitudes-of d x range p h =
     let less : suc d - 1 ≡ d = omega arith in
-    rw (element-of (suc d) x p h, less) (bound d sample-limit (sample x) (samples-small range) p)
+    rw (element-of eight-factor (suc d) x p h, less) (bound d sample-limit (sample x) (samples-small range) p)
 
 -- a block's set, "the 64 elements that forward writes for a block in range", is an accepted set
 pub block-set : (d : ℕ) (x : List ℤ) → AllInRange (suc d) x → AcceptedSet (places-in (suc d)) (magnitudes-limit-in sample-limit (suc d)) (elements-of (suc d) x)
-block-set d x range = record { size = length-elements (suc d) x; in-limit = magnitudes-of d x range }
+block-set d x range = record { size = length-elements factor (suc d) x; in-limit = magnitudes-of d x range }

@@ -4,6 +4,7 @@ use mathlib.Core.Path.{_≡_, refl}
 use mathlib.Core.Bool.{true, false}
 use mathlib.Core.List.{List}
 use Prim.Native.Nat.{ℕ, _*_, _≤_, _<_}
+use native.Mathlib.Nat.{le-trans}
 use lib.IntN.{ℤ}
 use lib.ListN.{length}
 use borrow.Author.Tests.{lt-ltb, le-ltb, ltb-false}
@@ -25,3 +26,7 @@ none-above {n} {L} {e} A p h = above-no L e p refl (A .in-limit p h)
 -- and a set in which none is above is accepted
 pub passed : {n L : ℕ} {e : List ℤ} → length e ≡ 8 * n → ((p : ℕ) → p < n → above-limit L e p ≡ false) → AcceptedSet n L e
 passed {n} {L} l none = record { size = l; in-limit = λ p h. ltb-false L _ (none p h) }
+
+-- a set within a limit is within a larger one
+pub wider : {n L M : ℕ} {e : List ℤ} → L ≤ M → AcceptedSet n L e → AcceptedSet n M e
+wider l A = record { size = A .size; in-limit = λ p h. le-trans (A .in-limit p h) l }

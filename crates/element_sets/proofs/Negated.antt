@@ -15,11 +15,11 @@ use Rattle.limits.specs.Limits.{places-in, components-in}
 use Rattle.ring.specs.Element.{component, negate}
 use Rattle.ring.proofs.Components.{length-scale, component-negate, negate-table}
 use Rattle.ring.proofs.Magnitude.{component-le, magnitudes-scale}
-use Rattle.dct.specs.Transform.{element}
+use Rattle.dct.specs.Transform.{factor, element}
 use Rattle.dct.proofs.Factors.{element-multiple}
 use Rattle.elements.specs.Buffer.{element-at}
 use Rattle.elements.proofs.Buffers.{number-at}
-use Rattle.element_sets.specs.Sets.{sample, elements-of, AcceptedSet}
+use Rattle.element_sets.specs.Sets.{sample, elements-by, elements-of, AcceptedSet}
 
 -- element p of a set
 pub element-negated : (e : List ℤ) (p : ℕ) → element-at (negate e) p ≡ negate (element-at e p)
@@ -42,9 +42,9 @@ negated-fits {n} {L} {e} S small i h =
 
 -- the elements of a block with all samples negated
 pub elements-negated : (d : ℕ) (x y : List ℤ) → ((q : ℕ) → q < places-in d → sample y q ≡ negℤ (sample x q)) → elements-of d y ≡ negate (elements-of d x)
-unfolding elements-of
+unfolding elements-by
 elements-negated d x y opposite =
     negate-table (components-in d) _ _ (λ i h.
     ap (λ u. component u (i % 8))
-    (element-multiple d (negsuc 0) (sample x) (sample y) (λ q l. opposite q l ∙ sym (minus-one-*ℤ (sample x q))) (i / 8))
+    (element-multiple factor d (negsuc 0) (sample x) (sample y) (λ q l. opposite q l ∙ sym (minus-one-*ℤ (sample x q))) (i / 8))
     ∙ component-negate (element d (sample x) (i / 8)) (i % 8))

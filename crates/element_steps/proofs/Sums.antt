@@ -8,11 +8,12 @@ use native.Mathlib.Omega.{arith}
 use lib.Dec.{lit≤}
 use lib.IntN.{ℤ, pos}
 use Rattle.integers.specs.Sum.{sum}
+use Rattle.integers.proofs.Sums.{sum-cong}
 use Rattle.ring.specs.Element.{add, cosine, mul}
 use Rattle.ring.specs.Maps.{part}
-use Rattle.dct.specs.Transform.{step}
+use Rattle.dct.specs.Transform.{factor, step}
 use Rattle.dct.proofs.Factors.{step-cong}
-use Rattle.dct.proofs.Parts.{by-parts}
+use Rattle.dct.proofs.Parts.{unit-cosine, by-parts}
 use Rattle.elements.specs.declared.Element.{Element}
 use Rattle.elements.specs.Bound.{bit-limit, headroom}
 use Rattle.elements.specs.Buffer.{Row, item}
@@ -53,7 +54,7 @@ module _ {x : List Element} (R : Room 8 (bit-limit 23) x) where
 
     product : (j : ℕ) {a t : List Element} → Part (k j) a → Product a t j → (i : ℕ) → i < 4 → item t i ≡ products j i
     product j {a} A T i h =
-        T .at i h ∙ ap (mul (cosine (pos (k j)))) (step-cong (λ n. part (item a n) 0) (λ n. part (item x n) (k j)) (g i) (λ n l. ap (λ b. part b 0) (A .at n l)))
+        T .at i h ∙ ap (mul (cosine (pos (k j)))) (step-cong factor (λ n. part (item a n) 0) (λ n. part (item x n) (k j)) (g i) (λ n l. ap (λ b. part b 0) (A .at n l)))
 
     pub room-product : (j : ℕ) {a t : List Element} → Part (k j) a → Product a t j → Room 4 headroom t
     room-product j A T = record { small = λ i h. rw (product j A T i h) (small-le (lit≤ tt) (small-products j i)) }
@@ -75,6 +76,11 @@ module _ {x : List Element} (R : Room 8 (bit-limit 23) x) where
     room-sum m h L =
         row-room L (λ i b. small-le (omega arith) (small-sum (suc m) (bit-limit 28) (λ j. products j i) (zero-lt-suc m) (λ j c. small-products j i)))
 
-    -- all of them are the step
-    pub all-parts : (m : ℕ) → Counts m k x → {l : List Element} → Summed m l → Row 4 (λ i. step (item x) (g i)) l
-    all-parts m C L = record { at = λ i h. L .at i h ∙ by-parts k m (item x) (C .counts) (g i) }
+    -- all of them are the step, where each is made of one of c_1 to c_7
+    pub all-parts : (m : ℕ) → ((j : ℕ) → j < m → (0 < k j) × (k j < 8)) → Counts m k x → {l : List Element} → Summed m l → Row 4 (λ i. step (item x) (g i)) l
+    all-parts m some C L = record {
+      at = λ i h.
+          L .at i h
+          ∙ sum-cong [] add m _ _ (λ j b. ap (λ c. mul c (step (λ n. part (item x n) (k j)) (g i))) (unit-cosine (k j) (some j b .0) (some j b .1)))
+          ∙ by-parts factor k m (item x) (C .counts) (g i);
+    }

@@ -12,7 +12,7 @@ use Rattle.ring.specs.Element.{component, add, negate, subtract, integer, mul}
 use Rattle.ring.specs.Maps.{part}
 use Rattle.ring.proofs.Components.{component-add, component-scale}
 use Rattle.ring.proofs.Product.{mul-comm}
-use Rattle.dct.specs.Transform.{angle, factor, step, half-step}
+use Rattle.dct.specs.Transform.{angle, factor, step, step-by, half-step}
 use Rattle.dct.proofs.Halves.{even-step, odd-step}
 use Rattle.elements.specs.declared.Element.{Element}
 use Rattle.elements.specs.Bound.{Within, bit-limit}
@@ -23,7 +23,7 @@ use Rattle.integer_step.specs.Combination.{term, combined}
 
 -- a step lets elements grow sixteenfold at most
 pub small-step : {B : ℕ} (r : ℕ → List ℤ) (k : ℕ) → ((n : ℕ) → n < 8 → Small B (r n)) → Small (16 * B) (step r k)
-unfolding step factor
+unfolding step-by factor
 small-step {B} r k s =
     small-le (omega arith) (small-sum 8 (B + B) _ (lit< tt) (λ n h. rw (mul-comm (r n) (factor k n)) (small-cosine (pos (angle k n)) (s n h))))
 

@@ -2,9 +2,11 @@
 pub mod Integer
 pub mod Magnitudes
 pub mod Division
+pub mod Reciprocal
 pub mod Nearest
 pub mod Signed
 pub mod Sums
+pub mod Ranges
 pub mod Search
 pub mod Foremost
 pub mod Tables

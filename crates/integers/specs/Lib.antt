@@ -1,4 +1,5 @@
 pub mod Nearest
+pub mod Range
 pub mod Search
 pub mod Sum
 pub mod Table

@@ -1,11 +1,15 @@
 // Sum and difference of two i32 as functions, so that a store of one into an array asks only that it fits; the lower and the higher of two; the
-// magnitude of an i32, as a u64, since that of -2^31 is no i32; and whether an i32 lies outside a range.
+// magnitude of an i32, as a u64, since that of -2^31 is no i32; and which of some i32 is the first that lies outside a range.
 ghost use mathlib.Core.Path.{_≡_};
-ghost use mathlib.Core.Bool.{cond, _||_};
+ghost use mathlib.Core.Bool.{cond};
+ghost use Prim.Native.Nat.{_≤_};
 ghost use lib.IntN.{_+ℤ_, _-ℤ_, natAbs};
+ghost use lib.ListN.{length};
 ghost use lib.Signed.{ltZ};
 ghost use mir.Val.{SFits};
 ghost use mir.Syntax.{w32};
+ghost use Rattle.integers.specs.Range as range;
+ghost use Rattle.integers.specs.Search.{any, first};
 
 // x + y, where it fits.
 pub fn plus(x: i32, y: i32) -> i32
@@ -56,10 +60,39 @@ pub fn magnitude(x: i32) -> u64
 
 // Whether x lies outside a range, both ends of which belong to it.
 pub fn outside(x: i32, lowest: i32, highest: i32) -> bool
-    ensures { λ r. ⌜ r ≡ (ltZ x lowest || ltZ highest x) ⌝ }
+    ensures { λ r. ⌜ r ≡ range.outside lowest highest x ⌝ }
 {
     if x < lowest {
         return true;
     }
     highest < x
+}
+
+// Whether any of the first n numbers does. The loop has no early exit, so that the compiler takes several at a time.
+pub fn any_outside(numbers: &[i32], n: usize, lowest: i32, highest: i32) -> bool
+    requires { ⌜ n ≤ length (now numbers) ⌝ }
+    ensures { λ r. ⌜ r ≡ any n (range.outside-at lowest highest (now (numbers .entry))) ⌝ }
+{
+    let mut r = false;
+    let mut i = 0;
+    while i < n {
+        r = r | outside(numbers[i], lowest, highest);
+        i += 1;
+    }
+    r
+}
+
+// The lowest index of one that does, and n where there is none, found by looking at one after the other.
+pub fn first_outside(numbers: &[i32], n: usize, lowest: i32, highest: i32) -> usize
+    requires { ⌜ n ≤ length (now numbers) ⌝ }
+    ensures { λ r. ⌜ r ≡ first n (range.outside-at lowest highest (now (numbers .entry))) ⌝ }
+{
+    let mut i = 0;
+    while i < n {
+        if outside(numbers[i], lowest, highest) {
+            return i;
+        }
+        i += 1;
+    }
+    i
 }

@@ -18,6 +18,7 @@ use Rattle.ring.specs.Element.{component, add, mul}
 use Rattle.dct.specs.Inverse.{summed-back}
 use Rattle.limits.specs.Limits.{places-in}
 use Rattle.dct.specs.Transform.{factors}
+use Rattle.dct.proofs.Factors.{eight-factor}
 use Rattle.dct.proofs.Inverse.{inverse}
 use Rattle.elements.specs.Buffer.{element-at}
 use Rattle.element_sets.specs.Sets.{sample, AllInRange, elements-of}
@@ -38,7 +39,7 @@ module _ (d : ℕ) where
       place : (r : ℕ) → r < places-in d → shrZ (component (summed-back d (element-at (elements-of d x)) r) 0) (16 ^ d) ≡ sample x r
       place r h =
           ap (λ a. shrZ (component a 0) (16 ^ d))
-          (sum-cong [] add (places-in d) _ _ (λ p k. ap (λ a. mul a (factors d p r)) (element-of d x p k)) ∙ inverse d (sample x) r h)
+          (sum-cong [] add (places-in d) _ _ (λ p k. ap (λ a. mul a (factors d p r)) (element-of eight-factor d x p k)) ∙ inverse d (sample x) r h)
           ∙ shrZ-exact (16 ^ d) (sample x r) (one-le-pow d 16 (lit< tt))
 
   -- a block that has the elements, as a test and as facts

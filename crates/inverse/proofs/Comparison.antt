@@ -1,7 +1,7 @@
 -- What decides whether a block has the elements: forward accepts it, and the 512 numbers agree one by one.
 -- Assumes nothing.
 use mathlib.Core.Path.{_≡_, sym, ap, _∙_}
-use mathlib.Core.Bool.{Bool, true, false, _&&_}
+use mathlib.Core.Bool.{Bool, true, false, not, _&&_}
 use mathlib.Core.List.{List}
 use Prim.Native.Nat.{ℕ, _+_, _≤_, _<_}
 use native.Mathlib.Nat.{not-suc-le-zero}
@@ -14,14 +14,16 @@ use lib.Seq.{ext-getD}
 use mir.Facts.{and-yes, yes-and}
 use mir.Syntax.{w32}
 use mir.Val.{ofZ, toZ}
-use borrow.Author.Tests.{eq-eqb}
+use borrow.Author.Tests.{eq-eqb, not-true}
+use Rattle.integers.specs.Range.{outside-at}
 use Rattle.integers.specs.Test.{eqList}
 use Rattle.integers.proofs.Tests.{holds, fails, every-at, every-passes, eqList→≡, eqList-refl}
-use Rattle.limits.specs.Limits.{places-in, components-in, in-range}
-use Rattle.answers.specs.Answer.{accepted}
-use Rattle.element_sets.specs.Sets.{sample, AllInRange, elements-of}
-use Rattle.transform.specs.Forward.{forward-returned, forward-elements}
-use Rattle.transform.proofs.Acceptance.{accepts, accepted-means, accepted-leaves}
+use Rattle.limits.specs.Limits.{places-in, components-in, lowest-sample, highest-sample}
+use Rattle.answers.specs.Job.{job-returned, job-left, Accepts}
+use Rattle.answers.proofs.Jobs.{accepted-leaves}
+use Rattle.element_sets.specs.Sets.{AllInRange, elements-of}
+use Rattle.transform.specs.Forward.{forward-job}
+use Rattle.transform.proofs.Acceptance.{accepts, accepted-means}
 use Rattle.inverse.specs.Back.{all-in-range, is-block-of}
 
 -- two buffers, number by number
@@ -75,20 +77,23 @@ agreed-all a b {n} {i} {r} p q l A = go r A
 -- the range, as a test and as a fact
 
 module _ (d : ℕ) (x : List ℤ) where
+  abbrev inside : ℕ → Bool
+  inside i = not (outside-at lowest-sample highest-sample x i)
+
   pub range-at : T (all-in-range d x) → AllInRange d x
-  range-at t = record { at = λ i h. holds _ (every-at (places-in d) (λ i. in-range (sample x i)) t i h) }
+  range-at t = record { at = λ i h. not-true _ (holds (inside i) (every-at (places-in d) inside t i h)) }
 
   pub range-test : AllInRange d x → T (all-in-range d x)
-  range-test range = every-passes (places-in d) (λ i. in-range (sample x i)) (λ i h. rw (range .at i h) tt)
+  range-test range = every-passes (places-in d) inside (λ i h. rw (range .at i h) tt)
 
   -- forward of the block x, into a buffer that holds `made`
   module _ (e made : List ℤ) where
-    pub forward-refuses : length x ≡ places-in d → length made ≡ components-in d → (forward-returned d x made .number ≡ 0 → ⊥) → false ≡ is-block-of d e x
+    pub forward-refuses : length x ≡ places-in d → length made ≡ components-in d → (job-returned (forward-job d x made) .number ≡ 0 → ⊥) → false ≡ is-block-of d e x
     forward-refuses s l n =
         sym (fails (is-block-of d e x)
         (λ t. n (ap (λ r. r .number) (accepts d x made s l (range-at (and-yes (all-in-range d x) (eqList (elements-of d x) e) t .0))))))
 
-    pub forward-accepts : forward-returned d x made .number ≡ 0 → eqList (forward-elements d x made) e ≡ is-block-of d e x
+    pub forward-accepts : job-returned (forward-job d x made) .number ≡ 0 → eqList (job-left (forward-job d x made)) e ≡ is-block-of d e x
     forward-accepts h =
-        let t : T (accepted (forward-returned d x made)) = rw (eq-eqb (forward-returned d x made .number) 0 h) tt in
-        rw (accepted-leaves d x made t, holds (all-in-range d x) (range-test (accepted-means d x made t .2)))
+        let t : Accepts (forward-job d x made) = rw (eq-eqb (job-returned (forward-job d x made) .number) 0 h) tt in
+        rw (accepted-leaves (forward-job d x made) t, holds (all-in-range d x) (range-test (accepted-means d x made t .2)))

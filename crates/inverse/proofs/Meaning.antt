@@ -1,157 +1,150 @@
--- What the way back does, in 01's words: a call with 64 samples is accepted exactly when there is a block in range that has these elements; then
+-- What the way back does, in 01's words: a call with room for a block is accepted exactly when there is a block in range that has these elements; then
 -- the buffer holds that block, which is the only one. An accepted set that no block has is refused by cause 5. And what forward and back do
--- after one another.
+-- after one another. All of it for suc d dimensions: 01's blocks have d = 1.
 -- Assumes nothing.
-use mathlib.Core.Path.{_≡_, sym, ap, _∙_}
+use mathlib.Core.Path.{_≡_, sym, ap, subst, _∙_}
 use mathlib.Core.Logic.{_↔_}
-use mathlib.Core.Bool.{false}
 use mathlib.Core.List.{List}
-use Prim.Native.Nat.{ℕ, _+_, _*_, _/_, _%_, _<_}
-use native.Mathlib.Decide.{ℕ-discrete}
+use Prim.Native.Nat.{ℕ, suc, _+_, _*_, _/_, _%_, _<_}
 use native.Mathlib.Omega.{arith}
-use lib.Dec.{T, lit<}
+use lib.Dec.{T, eqb→eq, lit<}
 use lib.IntN.{ℤ, pos}
 use lib.ListN.{length, getD}
 use Rattle.integers.proofs.Tables.{is-table}
 use Rattle.integers.proofs.Tests.{fails}
-use Rattle.limits.specs.Limits.{places, components-size, magnitudes-limit}
+use Rattle.limits.specs.Limits.{places-in, components-in, sample-limit, magnitudes-limit-in}
 use Rattle.ring.specs.Element.{component}
-use Rattle.dct.specs.Transform.{element}
-use Rattle.dct.proofs.Dimensions.{element-by-number}
+use Rattle.dct.specs.Transform.{factor, element, double-sum}
+use Rattle.dct.proofs.Factors.{eight-factor}
+use Rattle.dct.proofs.Dimensions.{element-double-sum, element-by-number}
 use Rattle.answers.specs.Answer as answers
-use Rattle.answers.specs.Answer.{Returned, Reason, holds, passes, accept, accepted}
-use Rattle.answers.proofs.Causes as causes
-use Rattle.answers.proofs.Causes.{only-reason}
-use Rattle.answers.proofs.Lengths.{both-right, right-both}
-use Rattle.element_sets.specs.Sets.{sample, AllInRange, elements-of, AcceptedSet}
-use Rattle.element_sets.proofs.Blocks.{length-elements, block-set}
+use Rattle.answers.specs.Answer.{Returned, Reason, holds, passes, accept}
+use Rattle.answers.specs.Job.{job-returned, job-left, Accepts}
+use Rattle.answers.proofs.Causes.{right-length}
+use Rattle.answers.proofs.Jobs as jobs
+use Rattle.element_sets.specs.Sets.{sample, AllInRange, elements-by, elements-of, AcceptedSet}
+use Rattle.element_sets.proofs.Blocks.{length-elements, component-of, block-set}
 use Rattle.element_sets.proofs.Limit.{none-above, passed}
-use Rattle.transform.specs.Forward.{forward-returned, forward-elements}
+use Rattle.transform.specs.Forward.{forward-job}
 use Rattle.transform.proofs.Acceptance as forward
-use Rattle.transform.proofs.Meaning.{component-of}
-use Rattle.inverse.specs.Back.{candidate, is-block-of, back-causes, back-returned, back-samples, HasElements}
+use Rattle.inverse.specs.Back.{candidate, is-block-of, back-causes, back-job, HasElements}
 use Rattle.inverse.proofs.Candidate.{length-candidate, test-block, block-facts, only-candidate}
-use Rattle.inverse.proofs.Causes.{wrong-samples}
 
 -- a block that has the elements, in the words of forward's definition
 
-has-elements : (x e : List ℤ) → length x ≡ places → AllInRange 2 x → elements-of 2 x ≡ e → HasElements x e
-has-elements x e size range has = record {
+has-elements : (d : ℕ) (x e : List ℤ) → length x ≡ places-in d → AllInRange d x → elements-of d x ≡ e → HasElements d x e
+has-elements d x e size range has = record {
   size = size;
   range = range;
-  whole = rw (← has) (length-elements 2 x);
-  components = λ u v k h l m. rw (← has) (component-of x u v k h l m);
+  whole = rw (← has) (length-elements factor d x);
+  components = λ p k h l. rw (← has) (component-of factor d x p k h l);
 }
 
-elements-are : {x e : List ℤ} → HasElements x e → elements-of 2 x ≡ e
-unfolding elements-of
-elements-are {x} {e} H = sym (is-table (pos 0) e components-size (λ i. component (element 2 (sample x) (i / 8)) (i % 8)) (H .whole) at)
+pub elements-are : {d : ℕ} {x e : List ℤ} → HasElements d x e → elements-of d x ≡ e
+unfolding elements-by
+elements-are {d} {x} {e} H = sym (is-table (pos 0) e (components-in d) (λ i. component (element d (sample x) (i / 8)) (i % 8)) (H .whole) at)
   where
-    at : (i : ℕ) → i < components-size → getD e i (pos 0) ≡ component (element 2 (sample x) (i / 8)) (i % 8)
+    at : (i : ℕ) → i < components-in d → getD e i (pos 0) ≡ component (element d (sample x) (i / 8)) (i % 8)
     at i h =
-        let u = i / 8 / 8 in
-        let v = i / 8 % 8 in
-        let number : 8 * u + v ≡ i / 8 = omega arith in
         let index : 8 * (i / 8) + i % 8 ≡ i = omega arith in
-        let there = rw (number, index) at (H .components u v (i % 8) (omega arith) (omega arith) (omega arith)) in
-        there ∙ ap (λ a. component a (i % 8)) (sym (element-by-number (sample x) (i / 8) (omega arith)))
+        rw index at (H .components (i / 8) (i % 8) (omega arith) (omega arith))
 
-is-candidate : {x e : List ℤ} → HasElements x e → candidate 2 e ≡ x
-is-candidate {x} {e} H = only-candidate 2 e x (H .size) (elements-are H)
+-- in 01's words, for two dimensions: "The exact element at (u,v) ... is the sum over all i, j of x(i,j) × t(u,i) × t(v,j)"
+pub has-double-sums : {x e : List ℤ} → HasElements 2 x e → (u v k : ℕ) → u < 8 → v < 8 → k < 8
+    → getD e (8 * (8 * u + v) + k) (pos 0) ≡ component (double-sum (λ i j. sample x (8 * i + j)) u v) k
+has-double-sums {x} H u v k h l m = H .components (8 * u + v) k (omega arith) m ∙ ap (λ a. component a k) (element-double-sum eight-factor (sample x) u v h l)
 
--- which calls are accepted
+-- and these sums are enough
+pub by-double-sums : (x e : List ℤ) → length x ≡ places-in 2 → AllInRange 2 x → length e ≡ components-in 2
+    → ((u v k : ℕ) → u < 8 → v < 8 → k < 8 → getD e (8 * (8 * u + v) + k) (pos 0) ≡ component (double-sum (λ i j. sample x (8 * i + j)) u v) k) → HasElements 2 x e
+by-double-sums x e size range whole sums = record {
+  size = size;
+  range = range;
+  whole = whole;
+  components = λ p k h l.
+      let number : 8 * (p / 8) + p % 8 ≡ p = omega arith in
+      rw number at (sums (p / 8) (p % 8) k (omega arith) (omega arith) l) ∙ ap (λ a. component a k) (sym (element-by-number eight-factor (sample x) p h));
+}
 
-no-cause : (e s : List ℤ) → T (accepted (back-returned 2 e s)) → AcceptedSet places magnitudes-limit e × (length s ≡ places) × T (is-block-of 2 e (candidate 2 e))
-unfolding back-returned
-no-cause e s h =
-    let (lengths, rest) = causes.accepted-means (back-causes 2 e s) accept (lit< tt, ((λ i f. lit< tt), (lit< tt, tt))) h in
-    let (l, k) = right-both (length e) components-size (length s) places lengths in
-    (passed l (rest .0), k, rest .1 .0)
+module _ (d : ℕ) where
+  is-candidate : {x e : List ℤ} → HasElements d x e → candidate d e ≡ x
+  is-candidate {x} {e} H = only-candidate d e x (H .size) (elements-are H)
 
-accepted-leaves : (e s : List ℤ) → T (accepted (back-returned 2 e s)) → back-samples 2 e s ≡ candidate 2 e
-unfolding back-samples
-accepted-leaves e s = causes.accepted-leaves (back-returned 2 e s) (candidate 2 e) s
+  -- the candidate has the elements exactly where some block has them
 
--- a call has a reason, and no other answer has one
+  candidate-has : (e : List ℤ) → T (is-block-of d e (candidate d e)) → HasElements d (candidate d e) e
+  candidate-has e t = let (range, has) = block-facts d e (candidate d e) t in has-elements d (candidate d e) e (length-candidate d e) range has
 
-pub reason : (e s : List ℤ) → Reason accept (back-causes 2 e s) (back-returned 2 e s)
-unfolding back-returned
-reason e s = causes.some-reason (back-causes 2 e s) accept
+  has-candidate : {x e : List ℤ} → HasElements d x e → T (is-block-of d e (candidate d e))
+  has-candidate {x} {e} H = rw (is-candidate H) (test-block d e x (H .range) (elements-are H))
 
-pub returned : (e s : List ℤ) {r : Returned} → Reason accept (back-causes 2 e s) r → r ≡ back-returned 2 e s
-unfolding back-returned
-returned e s = only-reason
+  -- a block is the only one
+  pub only-one : (e x y : List ℤ) → HasElements d x e → HasElements d y e → x ≡ y
+  only-one e x y H K = sym (is-candidate H) ∙ is-candidate K
 
--- a refused call leaves the buffer as it was
-pub refused-leaves : (e s : List ℤ) → accepted (back-returned 2 e s) ≡ false → back-samples 2 e s ≡ s
-unfolding back-samples
-refused-leaves e s = causes.refused-leaves (back-returned 2 e s) (candidate 2 e) s
+-- which calls are accepted, in one dimension and more
 
--- an accepted call had an accepted set and 64 samples, and leaves a block that has the elements
-pub accepted-means : (e s : List ℤ) → T (accepted (back-returned 2 e s)) → AcceptedSet places magnitudes-limit e × (length s ≡ places) × HasElements (back-samples 2 e s) e
-accepted-means e s h =
-    let (set, room, test) = no-cause e s h in
-    let (range, has) = block-facts 2 e (candidate 2 e) test in
-    (set, room, rw (accepted-leaves e s h) (has-elements (candidate 2 e) e (length-candidate 2 e) range has))
+module _ (d : ℕ) (e s : List ℤ) where
+  abbrev n : ℕ
+  n = suc d
 
-module _ (e s : List ℤ) (room : length s ≡ places) where
-  accepted-by : AcceptedSet places magnitudes-limit e → T (is-block-of 2 e (candidate 2 e)) → back-returned 2 e s ≡ accept
-  unfolding back-returned
-  accepted-by set test = causes.accepts (back-causes 2 e s) accept (both-right (length e) components-size (length s) places (set .size) room, (none-above set, (test, tt)))
+  abbrev L : ℕ
+  L = magnitudes-limit-in sample-limit n
 
-  -- where a block has the elements, the call is accepted and leaves that block
-  pub accepts : (x : List ℤ) → HasElements x e → (back-returned 2 e s ≡ accept) × (back-samples 2 e s ≡ x)
-  accepts x H =
-      let set : AcceptedSet places magnitudes-limit e = rw (elements-are H) at (block-set 1 x (H .range)) in
-      let test : T (is-block-of 2 e (candidate 2 e)) = rw (is-candidate H) (test-block 2 e x (H .range) (elements-are H)) in
-      let answer = accepted-by set test in
-      (answer, accepted-leaves e s (rw answer tt) ∙ is-candidate H)
+  -- an accepted call had an accepted set and room for a block, and leaves a block that has the elements
+  pub accepted-means : Accepts (back-job n e s) → AcceptedSet (places-in n) L e × (length s ≡ places-in n) × HasElements n (job-left (back-job n e s)) e
+  accepted-means h =
+      let (l, (k, (none, (test, rest)))) = jobs.accepted-means (back-job n e s) (lit< tt, (lit< tt, ((λ i f. lit< tt), (lit< tt, tt)))) h in
+      (passed (eqb→eq (length e) (components-in n) l) none, eqb→eq (length s) (places-in n) k, rw (jobs.accepted-leaves (back-job n e s) h) (candidate-has n e test))
 
-  -- so it is accepted exactly when some block has them
-  pub exactly : T (accepted (back-returned 2 e s)) ↔ ((x : List ℤ) × HasElements x e)
-  exactly = (λ h. (back-samples 2 e s, accepted-means e s h .2), λ (x, H). rw (accepts x H .0) tt)
+  module _ (room : length s ≡ places-in n) where
+    -- where a block has the elements, the call is accepted and leaves that block
+    pub accepts : (x : List ℤ) → HasElements n x e → (job-returned (back-job n e s) ≡ accept) × (job-left (back-job n e s) ≡ x)
+    accepts x H =
+        let set : AcceptedSet (places-in n) L e = rw (elements-are H) at (block-set d x (H .range)) in
+        let answer = jobs.accepts (back-job n e s) (right-length (set .size), (right-length room, (none-above set, (has-candidate n H, tt)))) in
+        (answer, jobs.accepted-leaves (back-job n e s) (rw answer tt) ∙ is-candidate n H)
 
-  -- where none has an accepted set, it is refused by cause 5, and the samples are as they were
-  pub refuses : AcceptedSet places magnitudes-limit e → ((x : List ℤ) → HasElements x e → ⊥) → (back-returned 2 e s ≡ record { number = 5; place = 0 }) × (back-samples 2 e s ≡ s)
-  unfolding back-returned back-samples
-  refuses set none = (answer, rw answer)
+    -- so it is accepted exactly when some block has them
+    pub exactly : Accepts (back-job n e s) ↔ ((x : List ℤ) × HasElements n x e)
+    exactly = (λ h. (job-left (back-job n e s), accepted-means h .2), λ (x, H). rw (accepts x H .0) tt)
+
+    -- where none has an accepted set, it is refused by cause 5, and the samples are as they were
+    pub refuses : AcceptedSet (places-in n) L e → ((x : List ℤ) → HasElements n x e → ⊥)
+        → (job-returned (back-job n e s) ≡ record { number = 5; place = 0 }) × (job-left (back-job n e s) ≡ s)
+    refuses set none =
+        let none-has = fails (is-block-of n e (candidate n e)) (λ t. none (candidate n e) (candidate-has n e t)) in
+        let answer = jobs.only-reason (back-job n e s)
+        (passes (right-length (set .size)) (passes (right-length room) (passes (none-above set) (holds (answers.fails none-has))))) in
+        (sym answer, jobs.refused-leaves (back-job n e s) (rw (← answer)))
+
+  -- and a refusal by cause 5 comes only where no block has them
+  pub refused-means : job-returned (back-job n e s) ≡ record { number = 5; place = 0 } → (x : List ℤ) → HasElements n x e → ⊥
+  refused-means r x H = by (jobs.reason (back-job n e s)) (ap (λ (a : Returned). a .number) r)
     where
-      none-has : T (is-block-of 2 e (candidate 2 e)) → ⊥
-      none-has t = let (range, has) = block-facts 2 e (candidate 2 e) t in none (candidate 2 e) (has-elements (candidate 2 e) e (length-candidate 2 e) range has)
-
-      answer : back-returned 2 e s ≡ record { number = 5; place = 0 }
-      answer =
-          sym (only-reason {l = back-causes 2 e s} (passes (both-right (length e) components-size (length s) places (set .size) room) (passes (none-above set)
-          (holds (answers.fails (fails (is-block-of 2 e (candidate 2 e)) none-has))))))
-
--- and a refusal by cause 5 comes only where no block has them
-pub refused-means : (e s : List ℤ) → back-returned 2 e s ≡ record { number = 5; place = 0 } → (x : List ℤ) → HasElements x e → ⊥
-refused-means e s r x H = go (ℕ-discrete (length s) places)
-  where
-    five : (n i : ℕ) → record { number = n; place = i } ≡ back-returned 2 e s → n ≡ 5
-    five n i p = ap (λ (a : Returned). a .number) (p ∙ r)
-
-    go : Dec (length s ≡ places) → ⊥
-    go (yes room) = omega (arith, five 0 0 (sym (accepts e s room x H .0)))
-    go (no short) = omega (arith, five 1 0 (wrong-samples e s (H .whole) short .0))
-
--- a block is the only one
-pub only-one : (e x y : List ℤ) → HasElements x e → HasElements y e → x ≡ y
-only-one e x y H K = sym (is-candidate H) ∙ is-candidate K
+      by : {r : Returned} → Reason accept (back-causes n e (length s)) r → r .number ≡ 5 → ⊥
+      by (holds (answers.fails t)) e = omega arith
+      by (passes p (holds (answers.fails t))) e = omega arith
+      by (passes p (passes q (holds (answers.faulty-at i h before t)))) e = omega arith
+      by (passes p (passes q (passes u (holds (answers.fails t))))) e = subst T t (has-candidate n H)
+      by (passes p (passes q (passes u (passes v answers.none-holds)))) e = omega arith
 
 -- round trips
 
--- back of what forward writes is the block
-pub back-of-forward : (x e s : List ℤ) → T (accepted (forward-returned 2 x e)) → length s ≡ places
-    → (back-returned 2 (forward-elements 2 x e) s ≡ accept) × (back-samples 2 (forward-elements 2 x e) s ≡ x)
-back-of-forward x e s h room =
-    let (size, whole, range) = forward.accepted-means 2 x e h in
-    accepts (forward-elements 2 x e) s room x (has-elements x (forward-elements 2 x e) size range (sym (forward.accepted-leaves 2 x e h)))
+module _ (d : ℕ) where
+  -- back of what forward writes is the block
+  pub back-of-forward : (x e s : List ℤ) → Accepts (forward-job (suc d) x e) → length s ≡ places-in (suc d)
+      → (job-returned (back-job (suc d) (job-left (forward-job (suc d) x e)) s) ≡ accept) × (job-left (back-job (suc d) (job-left (forward-job (suc d) x e)) s) ≡ x)
+  back-of-forward x e s h room =
+      let made = job-left (forward-job (suc d) x e) in
+      let (size, whole, range) = forward.accepted-means (suc d) x e h in
+      accepts d made s room x (has-elements (suc d) x made size range (sym (jobs.accepted-leaves (forward-job (suc d) x e) h)))
 
--- forward of what back writes is the elements
-pub forward-of-back : (e s t : List ℤ) → T (accepted (back-returned 2 e s)) → length t ≡ components-size
-    → (forward-returned 2 (back-samples 2 e s) t ≡ accept) × (forward-elements 2 (back-samples 2 e s) t ≡ e)
-forward-of-back e s t h whole =
-    let H = accepted-means e s h .2 in
-    let answer = forward.accepts 2 (back-samples 2 e s) t (H .size) whole (H .range) in
-    (answer, forward.accepted-leaves 2 (back-samples 2 e s) t (rw answer tt) ∙ elements-are H)
+  -- forward of what back writes is the elements
+  pub forward-of-back : (e s t : List ℤ) → Accepts (back-job (suc d) e s) → length t ≡ components-in (suc d)
+      → (job-returned (forward-job (suc d) (job-left (back-job (suc d) e s)) t) ≡ accept) × (job-left (forward-job (suc d) (job-left (back-job (suc d) e s)) t) ≡ e)
+  forward-of-back e s t h whole =
+      let block = job-left (back-job (suc d) e s) in
+      let H = accepted-means d e s h .2 in
+      let answer = forward.accepts (suc d) block t (H .size) whole (H .range) in
+      (answer, jobs.accepted-leaves (forward-job (suc d) block t) (rw answer tt) ∙ elements-are H)

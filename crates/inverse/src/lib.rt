@@ -8,18 +8,18 @@
 // restored, and make the same 512 numbers of it. A block's set is within the limit of cause 4, so that the search for an element above it waits
 // until there is no block; what the passes ask for their sums, that no number that they read is above the limit by itself, is a quicker question.
 ghost use mathlib.Core.Path.{_≡_};
-ghost use lib.IntN.{pos};
-ghost use lib.ListN.{getD, length};
-ghost use Rattle.integers.specs.Search.{any};
+ghost use lib.Dec.{T};
+ghost use lib.ListN.{length};
 ghost use Rattle.integers.specs.Test.{eqList};
 ghost use Rattle.limits.specs.Limits.{components-size, places};
-ghost use Rattle.answers.specs.Answer.{returned};
-ghost use Rattle.inverse_passes.specs.Passes.{read-size};
-ghost use Rattle.inverse.specs.Back.{back-returned, back-samples, is-block-of};
-ghost use Rattle.inverse.specs.Refusal.{beyond-limit, refused-returned};
+ghost use Rattle.answers.specs.Answer.{accept, accepted, answered, returned};
+ghost use Rattle.answers.specs.Job.{job-left, job-returned};
+ghost use Rattle.inverse.specs.Back.{back-causes, back-job, candidate, is-block-of};
+ghost use Rattle.inverse.specs.Refusal.{refused-returned};
 use answers::Answer;
+use answers::number;
 use element_sets::first_above;
-use integers::outside;
+use integers::any_outside;
 use inverse_passes::READ_SIZE;
 use inverse_passes::restored;
 use limits::COMPONENTS;
@@ -48,7 +48,7 @@ fn is_block_of(elements: &[i32], block: [i32; PLACES]) -> bool
     ensures { λ r. ⌜ r ≡ is-block-of 2 (now (elements .entry)) block ⌝ }
 {
     let mut made = [0i32; COMPONENTS];
-    if answers::number(forward(&block, &mut made)) != 0 {
+    if number(forward(&block, &mut made)) != 0 {
         return false;
     }
     same(&made, elements)
@@ -58,27 +58,6 @@ fn is_block_of(elements: &[i32], block: [i32; PLACES]) -> bool
 const HIGHEST_NUMBER: i32 = MAGNITUDES_LIMIT as i32;
 
 const LOWEST_NUMBER: i32 = -HIGHEST_NUMBER;
-
-// Whether a number is above that limit by itself.
-fn above(x: i32) -> bool
-    ensures { λ r. ⌜ r ≡ beyond-limit x ⌝ }
-{
-    outside(x, LOWEST_NUMBER, HIGHEST_NUMBER)
-}
-
-// Whether any number that the passes read is so. The loop has no early exit, so that the compiler takes several numbers at a time.
-fn any_above(elements: &[i32]) -> bool
-    requires { ⌜ length (now elements) ≡ components-size ⌝ }
-    ensures { λ r. ⌜ r ≡ any read-size (λ i. beyond-limit (getD (now (elements .entry)) i (pos 0))) ⌝ }
-{
-    let mut r = false;
-    let mut k = 0;
-    while k < READ_SIZE {
-        r = r | above(elements[k]);
-        k += 1;
-    }
-    r
-}
 
 // Why elements that no block has are refused: the first of them that is above the limit, or that there is no block.
 fn refusal(elements: &[i32]) -> Answer
@@ -90,6 +69,46 @@ fn refusal(elements: &[i32]) -> Answer
         return Answer::Magnitudes(p);
     }
     Answer::NoBlock
+}
+
+// What is answered for some elements, and the block that has them.
+struct Found {
+    answer: Answer,
+    block: [i32; PLACES],
+}
+
+// A refusal, with no block beside it.
+fn refused(answer: Answer) -> Found
+    ensures { λ r. ⌜ r .answer ≡ answer ⌝ }
+{
+    Found {
+        answer,
+        block: [0i32; PLACES],
+    }
+}
+
+// Why elements are refused, with room for this many samples, or the block that has them.
+fn check(elements: &[i32], room: usize) -> Found
+    ensures { λ r. ⌜ returned (r .answer) ≡ answered (back-causes 2 (now (elements .entry)) room) accept ⌝ }
+    ensures { λ r. ⌜ (T (accepted (returned (r .answer))) → r .block ≡ candidate 2 (now (elements .entry))) ⌝ }
+{
+    if elements.len() != COMPONENTS {
+        return refused(Answer::Lengths);
+    }
+    if room != PLACES {
+        return refused(Answer::Lengths);
+    }
+    if any_outside(elements, READ_SIZE, LOWEST_NUMBER, HIGHEST_NUMBER) {
+        return refused(refusal(elements));
+    }
+    let block = restored(elements);
+    if !is_block_of(elements, block) {
+        return refused(refusal(elements));
+    }
+    Found {
+        answer: Answer::Accepted(0),
+        block,
+    }
 }
 
 // A block into a buffer.
@@ -106,22 +125,16 @@ fn store(block: [i32; PLACES], samples: &mut [i32])
 
 // The block of 64 samples that has these elements, or the reason why it is not written; then `samples` is as it was.
 pub fn back(elements: &[i32], samples: &mut [i32]) -> Answer
-    ensures { λ r. ⌜ returned r ≡ back-returned 2 (now (elements .entry)) (now (samples .entry)) ⌝ }
-    ensures { λ r. ⌜ now (samples .exit) ≡ back-samples 2 (now (elements .entry)) (now (samples .entry)) ⌝ }
+    ensures { λ r. ⌜ returned r ≡ job-returned (back-job 2 (now (elements .entry)) (now (samples .entry))) ⌝ }
+    ensures { λ r. ⌜ now (samples .exit) ≡ job-left (back-job 2 (now (elements .entry)) (now (samples .entry))) ⌝ }
+    ensures { λ r. ⌜ now (elements .exit) ≡ now (elements .entry) ⌝ }
 {
-    if elements.len() != COMPONENTS {
-        return Answer::Lengths;
+    let found = check(elements, samples.len());
+    let answer = found.answer;
+    if number(answer) != 0 {
+        return answer;
     }
-    if samples.len() != PLACES {
-        return Answer::Lengths;
-    }
-    if any_above(elements) {
-        return refusal(elements);
-    }
-    let block = restored(elements);
-    if !is_block_of(elements, block) {
-        return refusal(elements);
-    }
+    let block = found.block;
     store(block, samples);
-    Answer::Accepted(0)
+    answer
 }

@@ -23,6 +23,7 @@ use Rattle.ring.specs.Maps.{dot}
 use Rattle.dct.specs.Inverse.{integer-back, known-frequency, known-component, weighted}
 use Rattle.limits.specs.Limits.{places, magnitudes-limit}
 use Rattle.dct.specs.Transform.{angle, factor, step}
+use Rattle.dct.proofs.Factors.{eight-factor}
 use Rattle.dct.proofs.Dimensions.{element-double-sum, columns-then-rows}
 use Rattle.dct.proofs.IntegerBack.{angle-between, integer-back-cong, integer-inverse, weighted-cong, weighted-times, column-restored}
 use Rattle.elements.specs.declared.Element.{Element}
@@ -96,8 +97,8 @@ row-back {f} {x} X Y = record { at = λ n h. Y .at n h ∙ ap integer (integer-b
 module _ {e : List ℤ} (y : List ℤ) (has : elements-of 2 y ≡ e) where
   element-is : (u v : ℕ) → u < 8 → v < 8 → element-at e (8 * u + v) ≡ step (λ j. frequencies y j u) v
   element-is u v h k =
-      ap (λ l. element-at l (8 * u + v)) (sym has) ∙ element-of 2 y (8 * u + v) (omega arith) ∙ element-double-sum (sample y) u v h k
-      ∙ columns-then-rows (λ i j. sample y (8 * i + j)) u v
+      ap (λ l. element-at l (8 * u + v)) (sym has) ∙ element-of eight-factor 2 y (8 * u + v) (omega arith) ∙ element-double-sum eight-factor (sample y) u v h k
+      ∙ columns-then-rows eight-factor (λ i j. sample y (8 * i + j)) u v
 
   -- the rows are 16 times the components by which its columns are known
   row-is : (k j : ℕ) → k < 8 → j < 8 → known-row e k j ≡ pos 16 *ℤ component (frequencies y j (known-frequency k)) (known-component k)

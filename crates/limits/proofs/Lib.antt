@@ -1,3 +1,2 @@
--- The figures of the limits, and the laws of ranges.
+-- The figures of the limits.
 pub mod Figures
-pub mod Range

@@ -1,9 +1,7 @@
 -- The limits of 01 ("Sheets", "Rounding at a width", "Why a set or sheet is turned back"), as functions of the number of dimensions d of a block
 -- and of the sample limit S, and those of 02. This is the one place of each number; the constants of the code stand in src/.
-use mathlib.Core.Bool.{Bool, _&&_}
 use Prim.Native.Nat.{ℕ, _+_, _-_, _*_, _/_, _^_}
 use lib.IntN.{ℤ, pos, negℤ}
-use lib.Signed.{leZ, ltZ}
 
 -- the places of a block, each of a sample, an element and a coefficient
 abbrev pub places-in : ℕ → ℕ
@@ -25,19 +23,19 @@ halvings-in d = 2 * d - 3
 abbrev pub distance-numerator-in : ℕ → ℕ → ℕ
 distance-numerator-in S d = magnitudes-limit-in S d / 2 ^ (halvings-in d + 1)
 
--- x lies in -S to S - 1
-abbrev pub in-signed-range : ℕ → ℤ → Bool
-in-signed-range S x = leZ (negℤ (pos S)) x && ltZ x (pos S)
-
 -- what is in force
 
--- the largest magnitude of a sample, which lies in -32,768 to 32,767 (02, request 6)
+-- the largest magnitude of a sample, S (02, request 6)
 abbrev pub sample-limit : ℕ
 sample-limit = 32768
 
--- a sample is in range
-abbrev pub in-range : ℤ → Bool
-in-range x = in-signed-range sample-limit x
+-- the range of samples, -S to S - 1: "-32,768 to 32,767"
+
+abbrev pub lowest-sample : ℤ
+lowest-sample = negℤ (pos sample-limit)
+
+abbrev pub highest-sample : ℤ
+highest-sample = pos (sample-limit - 1)
 
 -- blocks of 8 by 8; `figures` has what each comes to
 

@@ -17,6 +17,9 @@ pub const HIGHEST_SAMPLE: i32 = SAMPLE_LIMIT - 1;
 // The largest sum of the magnitudes of an element's components: 8 · 16 times the sample limit.
 pub const MAGNITUDES_LIMIT: u64 = 128 * SAMPLE_LIMIT as u64;
 
+// How often an element is halved for a coefficient in eighths.
+pub const HALVINGS: u32 = 1;
+
 // The largest number of blocks of a sheet.
 pub const BLOCKS_LIMIT: usize = 128;
 

@@ -13,10 +13,11 @@ use Rattle.limits.specs.Limits.{places, components-size}
 use Rattle.ring.specs.Element.{component, add, scale, mul}
 use Rattle.ring.proofs.Linear.{elements, linear-scale, scale-one, scale-scale}
 use Rattle.ring.proofs.Product.{mul-right, mul-comm}
-use Rattle.dct.specs.Transform.{factor, element, double-sum, mirror-sign}
+use Rattle.dct.specs.Transform.{factor, element, double-sum, double-sum-by, mirror-sign}
+use Rattle.dct.proofs.Factors.{eight-factor}
 use Rattle.dct.proofs.Halves.{mirrored}
 use Rattle.dct.proofs.Dimensions.{element-by-number, double-sum-cong, linear-double-sum}
-use Rattle.element_sets.specs.Sets.{sample, AllInRange, elements-of}
+use Rattle.element_sets.specs.Sets.{sample, AllInRange, elements-by, elements-of}
 use Rattle.element_sets.proofs.Blocks.{element-of}
 use Rattle.orientations.specs.Orientation.{orientations, reoriented, reoriented-block, sample-at, source, sign, reoriented-elements, composed}
 use Rattle.orientations.proofs.Places.{sample-source, reoriented-index, sample-below, source-below, composed-below, composed-sample}
@@ -24,13 +25,13 @@ use Rattle.orientations.proofs.Places.{sample-source, reoriented-index,
 -- 01's double sum at (u,v), mirrored and swapped
 
 swapped-sum : (x : ℕ → ℕ → ℤ) (u v : ℕ) → double-sum (λ i j. x j i) u v ≡ double-sum x v u
-unfolding double-sum
+unfolding double-sum-by
 swapped-sum x u v =
     sum-swap [] add elements 8 8 (λ i j. scale (x j i) (mul (factor u i) (factor v j)))
     ∙ sum-cong [] add 8 _ _ (λ j h. sum-cong [] add 8 _ _ (λ i l. ap (scale (x j i)) (mul-comm (factor u i) (factor v j))))
 
 left-right-sum : (x : ℕ → ℕ → ℤ) (u v : ℕ) → v < 8 → double-sum (λ i j. x i (7 - j)) u v ≡ scale (mirror-sign v) (double-sum x u v)
-unfolding double-sum
+unfolding double-sum-by
 left-right-sum x u v h =
     sum-cong [] add 8 _ _ (λ i l. sum-reverse [] add elements 8 (term i) ∙ sum-cong [] add 8 _ _ (λ j m. item i j m))
     ∙ sym (linear-double-sum (scale (mirror-sign v)) (linear-scale (mirror-sign v)) (λ i j. scale (x i j) (mul (factor u i) (factor v j))))
@@ -124,14 +125,14 @@ row-and-column o x i j h l =
 element-reoriented-block : (o : ℕ) (x : List ℤ) (p : ℕ) → o < orientations → p < places
     → element 2 (sample (reoriented-block o x)) p ≡ scale (sign o p) (element 2 (sample x) (source o p))
 element-reoriented-block o x p h l =
-    element-by-number (sample (reoriented-block o x)) p l
-    ∙ double-sum-cong (sample-at (reoriented-block o x)) (reoriented o (sample-at x)) (p / 8) (p % 8) (row-and-column o x)
-    ∙ reoriented-sum (sample-at x) o p h l ∙ ap (scale (sign o p)) (sym (element-by-number (sample x) (source o p) (source-below o p h l)))
+    element-by-number eight-factor (sample (reoriented-block o x)) p l
+    ∙ double-sum-cong factor (sample-at (reoriented-block o x)) (reoriented o (sample-at x)) (p / 8) (p % 8) (row-and-column o x)
+    ∙ reoriented-sum (sample-at x) o p h l ∙ ap (scale (sign o p)) (sym (element-by-number eight-factor (sample x) (source o p) (source-below o p h l)))
 
 pub elements-of-block : (o : ℕ) (x : List ℤ) → o < orientations → elements-of 2 (reoriented-block o x) ≡ reoriented-elements o (elements-of 2 x)
-unfolding elements-of reoriented-elements
+unfolding elements-by reoriented-elements
 elements-of-block o x h =
     table-ext components-size _ _ (λ i l.
     let p : i / 8 < places = omega arith in
     ap (λ a. component a (i % 8)) (element-reoriented-block o x (i / 8) h p
-    ∙ ap (scale (sign o (i / 8))) (sym (element-of 2 x (source o (i / 8)) (source-below o (i / 8) h p)))))
+    ∙ ap (scale (sign o (i / 8))) (sym (element-of eight-factor 2 x (source o (i / 8)) (source-below o (i / 8) h p)))))

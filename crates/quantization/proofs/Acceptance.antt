@@ -1,86 +1,79 @@
--- Which calls are accepted: those with 64 numbers, 64 steps in range, room for 64 numbers, and no place faulty its limit.
+-- Which calls are accepted: those with 64 numbers, 64 steps in range, room for 64 numbers, and no place beyond its limit; and what is answered by a
+-- job that asks `check_steps` for causes 1 and 10, and then looks for a place beyond its limit.
 -- Assumes nothing.
-use mathlib.Core.Path.{_≡_}
-use mathlib.Core.Bool.{Bool, false}
-use mathlib.Core.List.{List}
+use mathlib.Core.Path.{_≡_, _∙_}
+use mathlib.Core.Bool.{Bool, true, false}
+use mathlib.Core.List.{List, [], _∷_}
 use Prim.Native.Nat.{ℕ}
-use lib.Dec.{T, lit<}
+use lib.Dec.{eqb→eq, lit<}
 use lib.IntN.{ℤ}
 use lib.ListN.{length}
-use Rattle.answers.specs.Answer.{Returned, Reason, answered, accept, accepted}
-use Rattle.answers.proofs.Causes as causes
-use Rattle.coefficients.specs.Coefficient.{beyond-at}
-use Rattle.quantization.specs.Quantization as spec
-use Rattle.quantization.specs.Quantization.{quantize-returned, quantized-values, quantize-values, dequantized-beyond-at, dequantize-returned, dequantized-coefficients, dequantize-coefficients}
-use Rattle.quantization.specs.Preconditions.{Allowed}
-use Rattle.quantization.proofs.Causes.{allowed-passes, passes-allowed}
+use borrow.Author.Tests.{ne-eqb}
+use Rattle.integers.specs.Range.{beyond-at}
+use Rattle.integers.specs.Search.{any, first}
+use Rattle.limits.specs.Limits.{places, coefficient-limit}
+use Rattle.answers.specs.Answer.{Returned, Each, Passes, Reason, holds, passes, none-holds, lowest, answered, accept}
+use Rattle.answers.specs.Job.{job-returned, Accepts}
+use Rattle.answers.proofs.Causes.{accepted-means, some-found, none-found, only-reason, some-reason, refused-before, passed-before, right-length}
+use Rattle.answers.proofs.Jobs as jobs
+use Rattle.quantization.specs.Quantization.{step-causes, causes, job, quantize-job, dequantized-beyond-at, dequantize-job}
+use Rattle.quantization.specs.Preconditions.{Ready, Allowed}
 
--- of both jobs
+passes-ready : (n : ℕ) (steps : List ℕ) (m : ℕ) → Each Passes (step-causes n steps m) → Ready n steps m
+passes-ready n steps m (a, (b, (c, (s, rest)))) =
+    record {
+      numbers = eqb→eq n places a;
+      ready-steps = record { size = eqb→eq (length steps) places b; in-range = s };
+      room = eqb→eq m places c;
+    }
 
-means : (faulty : ℕ → Bool) (n : ℕ) (steps : List ℕ) (m : ℕ) → T (accepted (answered (spec.causes faulty n steps m) accept)) → Allowed faulty n steps m
-means faulty n steps m h =
-    passes-allowed faulty n steps m
-    (causes.accepted-means (spec.causes faulty n steps m) accept (lit< tt, (lit< tt, (lit< tt, ((λ i f. lit< tt), ((λ i f. lit< tt), tt))))) h)
+-- a job of either kind
 
--- quantize
+module _ (faulty : ℕ → Bool) (n : ℕ) (steps : List ℕ) (result was : List ℤ) where
+  accepts : Allowed faulty n steps (length was) → job-returned (job faulty n steps result was) ≡ accept
+  accepts A =
+      let R = A .ready in
+      jobs.accepts (job faulty n steps result was)
+      (right-length (R .numbers), (right-length (R .ready-steps .size), (right-length (R .room), (R .ready-steps .in-range, (A .none-beyond, tt)))))
+
+  means : Accepts (job faulty n steps result was) → Allowed faulty n steps (length was)
+  means h =
+      let (a, (b, (c, (s, (t, rest))))) = jobs.accepted-means (job faulty n steps result was) (lit< tt, (lit< tt, (lit< tt, ((λ i f. lit< tt), ((λ i f. lit< tt), tt))))) h in
+      record { ready = passes-ready n steps (length was) (a, (b, (c, (s, tt)))); none-beyond = t }
 
 module _ (y : List ℤ) (s : List ℕ) (q : List ℤ) where
-  pub quantize-accepts : Allowed (beyond-at y) (length y) s (length q) → quantize-returned y s q ≡ accept
-  unfolding quantize-returned
-  quantize-accepts A = causes.accepts (spec.causes (beyond-at y) (length y) s (length q)) accept (allowed-passes (beyond-at y) (length y) s (length q) A)
+  pub quantize-accepts : Allowed (beyond-at coefficient-limit y) (length y) s (length q) → job-returned (quantize-job y s q) ≡ accept
+  quantize-accepts = accepts (beyond-at coefficient-limit y) (length y) s (quantize-job y s q .result) q
 
-  module _ (h : T (accepted (quantize-returned y s q))) where
-    pub quantize-means : Allowed (beyond-at y) (length y) s (length q)
-    unfolding quantize-returned
-    quantize-means = means (beyond-at y) (length y) s (length q) h
-
-    pub quantize-leaves : quantize-values y s q ≡ quantized-values y s
-    unfolding quantize-values
-    quantize-leaves = causes.accepted-leaves (quantize-returned y s q) (quantized-values y s) q h
-
-  -- a call has a reason, and no other answer has one
-
-  pub quantize-reason : Reason accept (spec.causes (beyond-at y) (length y) s (length q)) (quantize-returned y s q)
-  unfolding quantize-returned
-  quantize-reason = causes.some-reason (spec.causes (beyond-at y) (length y) s (length q)) accept
-
-  pub quantize-only : {r : Returned} → Reason accept (spec.causes (beyond-at y) (length y) s (length q)) r → r ≡ quantize-returned y s q
-  unfolding quantize-returned
-  quantize-only = causes.only-reason
-
-  -- a refused call leaves the buffer as it was
-  pub quantize-refused : accepted (quantize-returned y s q) ≡ false → quantize-values y s q ≡ q
-  unfolding quantize-values
-  quantize-refused = causes.refused-leaves (quantize-returned y s q) (quantized-values y s) q
-
--- dequantize
+  pub quantize-means : Accepts (quantize-job y s q) → Allowed (beyond-at coefficient-limit y) (length y) s (length q)
+  quantize-means = means (beyond-at coefficient-limit y) (length y) s (quantize-job y s q .result) q
 
 module _ (q : List ℤ) (s : List ℕ) (y : List ℤ) where
-  pub dequantize-accepts : Allowed (dequantized-beyond-at q s) (length q) s (length y) → dequantize-returned q s y ≡ accept
-  unfolding dequantize-returned
-  dequantize-accepts A =
-      causes.accepts (spec.causes (dequantized-beyond-at q s) (length q) s (length y)) accept (allowed-passes (dequantized-beyond-at q s) (length q) s (length y) A)
+  pub dequantize-accepts : Allowed (dequantized-beyond-at q s) (length q) s (length y) → job-returned (dequantize-job q s y) ≡ accept
+  dequantize-accepts = accepts (dequantized-beyond-at q s) (length q) s (dequantize-job q s y .result) y
 
-  module _ (h : T (accepted (dequantize-returned q s y))) where
-    pub dequantize-means : Allowed (dequantized-beyond-at q s) (length q) s (length y)
-    unfolding dequantize-returned
-    dequantize-means = means (dequantized-beyond-at q s) (length q) s (length y) h
+  pub dequantize-means : Accepts (dequantize-job q s y) → Allowed (dequantized-beyond-at q s) (length q) s (length y)
+  dequantize-means = means (dequantized-beyond-at q s) (length q) s (dequantize-job q s y .result) y
 
-    pub dequantize-leaves : dequantize-coefficients q s y ≡ dequantized-coefficients q s
-    unfolding dequantize-coefficients
-    dequantize-leaves = causes.accepted-leaves (dequantize-returned q s y) (dequantized-coefficients q s) y h
+-- a is what `check_steps` answers, and k its number
 
-  -- a call has a reason, and no other answer has one
+module _ (faulty : ℕ → Bool) (n : ℕ) (steps : List ℕ) (m : ℕ) {a : Returned} (e : a ≡ answered (step-causes n steps m) accept) {k : ℕ} (g : k ≡ a .number) where
+  pub refused-steps : (k ≡ 0 → ⊥) → a ≡ answered (causes faulty n steps m) accept
+  refused-steps x =
+      let R : Reason accept (step-causes n steps m) a = rw e (some-reason (step-causes n steps m) accept) in
+      only-reason (refused-before (lowest places faulty 11 ∷ []) tt (ne-eqb (a .number) 0 (λ z. x (g ∙ z))) R)
 
-  pub dequantize-reason : Reason accept (spec.causes (dequantized-beyond-at q s) (length q) s (length y)) (dequantize-returned q s y)
-  unfolding dequantize-returned
-  dequantize-reason = causes.some-reason (spec.causes (dequantized-beyond-at q s) (length q) s (length y)) accept
+  module _ (z : k ≡ 0) where
+    passed : Each Passes (step-causes n steps m)
+    passed = accepted-means (step-causes n steps m) accept (lit< tt, (lit< tt, (lit< tt, ((λ i f. lit< tt), tt)))) (rw (← e, ← g, z) tt)
 
-  pub dequantize-only : {r : Returned} → Reason accept (spec.causes (dequantized-beyond-at q s) (length q) s (length y)) r → r ≡ dequantize-returned q s y
-  unfolding dequantize-returned
-  dequantize-only = causes.only-reason
+    pub ready : Ready n steps m
+    ready = passes-ready n steps m passed
 
-  -- a refused call leaves the buffer as it was
-  pub dequantize-refused : accepted (dequantize-returned q s y) ≡ false → dequantize-coefficients q s y ≡ y
-  unfolding dequantize-coefficients
-  dequantize-refused = causes.refused-leaves (dequantize-returned q s y) (dequantized-coefficients q s) y
+    -- t says whether a place is beyond its limit, and p is the first
+    module _ {t : Bool} (f : t ≡ any places faulty) where
+      pub refused-beyond : t ≡ true → {p : ℕ} → p ≡ first places faulty → record { number = 11; place = p } ≡ answered (causes faulty n steps m) accept
+      refused-beyond h s = only-reason (passed-before (step-causes n steps m) passed (holds (some-found places faulty f h s)))
+
+      pub accepted-call : t ≡ false → accept ≡ answered (causes faulty n steps m) accept
+      accepted-call h = only-reason (passed-before (step-causes n steps m) passed (passes (none-found places faulty f h) none-holds))

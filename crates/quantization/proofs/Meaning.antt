@@ -3,109 +3,111 @@
 use mathlib.Core.Path.{_≡_, sym, ap, _∙_}
 use mathlib.Core.List.{List}
 use Prim.Native.Nat.{ℕ, _*_, _≤_, _<_}
-use lib.Dec.{T}
 use lib.IntN.{ℤ, pos, _-ℤ_, negℤ, natAbs}
 use lib.ListN.{length, getD}
-use borrow.Author.Tests.{ltb-false, le-ltb}
 use Rattle.integers.specs.Nearest.{Rounded, Away}
 use Rattle.integers.proofs.Magnitudes.{natAbs-neg}
+use Rattle.integers.proofs.Ranges.{not-beyond, within-limit}
 use Rattle.integers.proofs.Tables.{length-table, getD-table, is-table}
 use Rattle.limits.specs.Limits.{places, coefficient-limit, dequantized-limit}
-use Rattle.answers.specs.Answer.{accept, accepted}
+use Rattle.answers.specs.Answer.{accept}
+use Rattle.answers.specs.Job.{job-returned, job-left, Accepts}
+use Rattle.answers.proofs.Jobs.{accepted-leaves}
 use Rattle.quantizer.specs.Quantizer.{step-of, divisor, quantized, dequantized}
 use Rattle.quantizer.proofs.Values as values
-use Rattle.quantization.specs.Quantization.{quantize-returned, quantized-at, quantize-values, dequantize-returned, dequantized-at, dequantize-coefficients}
-use Rattle.quantization.proofs.Acceptance.{quantize-accepts, quantize-means, quantize-leaves, dequantize-accepts, dequantize-means, dequantize-leaves}
+use Rattle.quantization.specs.Quantization.{quantized-at, quantize-job, dequantized-at, dequantize-job}
+use Rattle.quantization.proofs.Acceptance.{quantize-accepts, quantize-means, dequantize-accepts, dequantize-means}
 
 -- an accepted call of quantize, at each place
 
-module _ (y : List ℤ) (s : List ℕ) (q : List ℤ) (h : T (accepted (quantize-returned y s q))) where
-  quantized-length : length (quantize-values y s q) ≡ places
-  quantized-length = rw (quantize-leaves y s q h) (length-table places (quantized-at y s))
+module _ (y : List ℤ) (s : List ℕ) (q : List ℤ) (h : Accepts (quantize-job y s q)) where
+  quantized-length : length (job-left (quantize-job y s q)) ≡ places
+  quantized-length = rw (accepted-leaves (quantize-job y s q) h) (length-table places (quantized-at y s))
 
   module _ (p : ℕ) (l : p < places) where
     positive : 0 < step-of s p
     positive = values.step-inside (quantize-means y s q h .ready .ready-steps) p l .0
 
-    pub quantized-place : getD (quantize-values y s q) p (pos 0) ≡ quantized (getD y p (pos 0)) (step-of s p)
-    quantized-place = rw (quantize-leaves y s q h) (getD-table places (quantized-at y s) (pos 0) p l)
+    pub quantized-place : getD (job-left (quantize-job y s q)) p (pos 0) ≡ quantized (getD y p (pos 0)) (step-of s p)
+    quantized-place = rw (accepted-leaves (quantize-job y s q) h) (getD-table places (quantized-at y s) (pos 0) p l)
 
     -- "the coefficient in eighths over 8 × step, to the nearest, halves away from zero"
-    pub nearest-place : Rounded Away (getD y p (pos 0)) (divisor (step-of s p)) (getD (quantize-values y s q) p (pos 0))
+    pub nearest-place : Rounded Away (getD y p (pos 0)) (divisor (step-of s p)) (getD (job-left (quantize-job y s q)) p (pos 0))
     nearest-place = rw quantized-place (values.quantized-rounded (step-of s p) positive (getD y p (pos 0)))
 
     -- and no other number is
-    pub only-place : {r : ℤ} → Rounded Away (getD y p (pos 0)) (divisor (step-of s p)) r → r ≡ getD (quantize-values y s q) p (pos 0)
+    pub only-place : {r : ℤ} → Rounded Away (getD y p (pos 0)) (divisor (step-of s p)) r → r ≡ getD (job-left (quantize-job y s q)) p (pos 0)
     only-place R = values.only-quantized (step-of s p) positive R ∙ sym quantized-place
 
   -- whatever quantize writes, dequantize accepts at the same steps
-  pub dequantize-accepted : (b : List ℤ) → length b ≡ places → dequantize-returned (quantize-values y s q) s b ≡ accept
+  pub dequantize-accepted : (b : List ℤ) → length b ≡ places → job-returned (dequantize-job (job-left (quantize-job y s q)) s b) ≡ accept
   dequantize-accepted b e =
       let A = quantize-means y s q h in
-      dequantize-accepts (quantize-values y s q) s b
+      dequantize-accepts (job-left (quantize-job y s q)) s b
       (record {
         ready = record { numbers = quantized-length; ready-steps = A .ready .ready-steps; room = e };
         none-beyond = λ p l.
             let (some, most) = values.step-inside (A .ready .ready-steps) p l in
-            let small = ltb-false coefficient-limit (natAbs (getD y p (pos 0))) (A .none-beyond p l) in
-            rw (quantized-place p l)
-            (le-ltb dequantized-limit (natAbs (dequantized (quantized (getD y p (pos 0)) (step-of s p)) (step-of s p)))
+            let small = within-limit coefficient-limit (getD y p (pos 0)) (A .none-beyond p l) in
+            rw (quantized-place p l) (not-beyond dequantized-limit (dequantized (quantized (getD y p (pos 0)) (step-of s p)) (step-of s p))
             (values.dequantized-small (step-of s p) some (getD y p (pos 0)) small most));
       })
 
 -- an accepted call of dequantize
 
-module _ (q : List ℤ) (s : List ℕ) (b : List ℤ) (h : T (accepted (dequantize-returned q s b))) where
+module _ (q : List ℤ) (s : List ℕ) (b : List ℤ) (h : Accepts (dequantize-job q s b)) where
   -- at each place "The way back is the kept number times 8 × step"
-  pub dequantized-place : (p : ℕ) → p < places → getD (dequantize-coefficients q s b) p (pos 0) ≡ dequantized (getD q p (pos 0)) (step-of s p)
-  dequantized-place p l = rw (dequantize-leaves q s b h) (getD-table places (dequantized-at q s) (pos 0) p l)
+  pub dequantized-place : (p : ℕ) → p < places → getD (job-left (dequantize-job q s b)) p (pos 0) ≡ dequantized (getD q p (pos 0)) (step-of s p)
+  dequantized-place p l = rw (accepted-leaves (dequantize-job q s b) h) (getD-table places (dequantized-at q s) (pos 0) p l)
 
-  dequantized-length : length (dequantize-coefficients q s b) ≡ places
-  dequantized-length = rw (dequantize-leaves q s b h) (length-table places (dequantized-at q s))
+  dequantized-length : length (job-left (dequantize-job q s b)) ≡ places
+  dequantized-length = rw (accepted-leaves (dequantize-job q s b) h) (length-table places (dequantized-at q s))
 
   -- where it leaves coefficients within their limit, quantize accepts them at the same steps, and gives the same values again
   pub quantized-again : (r : List ℤ) → length r ≡ places
-      → ((p : ℕ) → p < places → natAbs (getD (dequantize-coefficients q s b) p (pos 0)) ≤ coefficient-limit)
-      → (quantize-returned (dequantize-coefficients q s b) s r ≡ accept) × (quantize-values (dequantize-coefficients q s b) s r ≡ q)
+      → ((p : ℕ) → p < places → natAbs (getD (job-left (dequantize-job q s b)) p (pos 0)) ≤ coefficient-limit)
+      → (job-returned (quantize-job (job-left (dequantize-job q s b)) s r) ≡ accept) × (job-left (quantize-job (job-left (dequantize-job q s b)) s r) ≡ q)
   quantized-again r e within =
-      let y = dequantize-coefficients q s b in
+      let y = job-left (dequantize-job q s b) in
       let A = dequantize-means q s b h in
-      let k : quantize-returned y s r ≡ accept =
+      let k : job-returned (quantize-job y s r) ≡ accept =
       quantize-accepts y s r
       (record {
         ready = record { numbers = dequantized-length; ready-steps = A .ready .ready-steps; room = e };
-        none-beyond = λ p l. le-ltb coefficient-limit (natAbs (getD y p (pos 0))) (within p l);
+        none-beyond = λ p l. not-beyond coefficient-limit (getD y p (pos 0)) (within p l);
       }) in (
         k,
-        quantize-leaves y s r (rw k tt)
+        accepted-leaves (quantize-job y s r) (rw k tt)
             ∙ sym (is-table (pos 0) q places (quantized-at y s) (A .ready .numbers) (λ p l.
             sym (ap (λ y. quantized y (step-of s p)) (dequantized-place p l)
             ∙ values.quantized-again (step-of s p) (values.step-inside (A .ready .ready-steps) p l .0) (getD q p (pos 0))))),
       )
 
 -- there and back: "The distance between coefficient and way back is at most 4 × step"
-pub distance : (y : List ℤ) (s : List ℕ) (q b : List ℤ) → T (accepted (quantize-returned y s q)) → length b ≡ places → (p : ℕ) → p < places
-    → natAbs (getD (dequantize-coefficients (quantize-values y s q) s b) p (pos 0) -ℤ getD y p (pos 0)) ≤ 4 * step-of s p
+pub distance : (y : List ℤ) (s : List ℕ) (q b : List ℤ) → Accepts (quantize-job y s q) → length b ≡ places → (p : ℕ) → p < places
+    → natAbs (getD (job-left (dequantize-job (job-left (quantize-job y s q)) s b)) p (pos 0) -ℤ getD y p (pos 0)) ≤ 4 * step-of s p
 distance y s q b h e p l =
-    let k : T (accepted (dequantize-returned (quantize-values y s q) s b)) = rw (dequantize-accepted y s q h b e) tt in
-    rw (dequantized-place (quantize-values y s q) s b k p l, quantized-place y s q h p l)
+    let k : Accepts (dequantize-job (job-left (quantize-job y s q)) s b) = rw (dequantize-accepted y s q h b e) tt in
+    rw (dequantized-place (job-left (quantize-job y s q)) s b k p l, quantized-place y s q h p l)
     (values.distance (step-of s p) (positive y s q h p l) (getD y p (pos 0)))
 
 -- a coefficient and its negative are quantized to opposite values, at the same steps
-pub opposite : (y z : List ℤ) (s : List ℕ) (q r : List ℤ) → T (accepted (quantize-returned y s q)) → T (accepted (quantize-returned z s r))
+pub opposite : (y z : List ℤ) (s : List ℕ) (q r : List ℤ) → Accepts (quantize-job y s q) → Accepts (quantize-job z s r)
     → (p : ℕ) → p < places → getD z p (pos 0) ≡ negℤ (getD y p (pos 0))
-    → getD (quantize-values z s r) p (pos 0) ≡ negℤ (getD (quantize-values y s q) p (pos 0))
+    → getD (job-left (quantize-job z s r)) p (pos 0) ≡ negℤ (getD (job-left (quantize-job y s q)) p (pos 0))
 opposite y z s q r h k p l e =
     rw (quantized-place y s q h p l, quantized-place z s r k p l, e)
     (values.quantized-opposite (step-of s p) (positive y s q h p l) (getD y p (pos 0)))
 
 -- and with a block of coefficients that of their negatives is accepted
-pub negatives-accepted : (y z : List ℤ) (s : List ℕ) (q r : List ℤ) → T (accepted (quantize-returned y s q)) → length z ≡ places → length r ≡ places
-    → ((p : ℕ) → p < places → getD z p (pos 0) ≡ negℤ (getD y p (pos 0))) → quantize-returned z s r ≡ accept
+pub negatives-accepted : (y z : List ℤ) (s : List ℕ) (q r : List ℤ) → Accepts (quantize-job y s q) → length z ≡ places → length r ≡ places
+    → ((p : ℕ) → p < places → getD z p (pos 0) ≡ negℤ (getD y p (pos 0))) → job-returned (quantize-job z s r) ≡ accept
 negatives-accepted y z s q r h e f g =
     let A = quantize-means y s q h in
     quantize-accepts z s r
     (record {
       ready = record { numbers = e; ready-steps = A .ready .ready-steps; room = f };
-      none-beyond = λ p l. rw (g p l, natAbs-neg (getD y p (pos 0))) (A .none-beyond p l);
+      none-beyond = λ p l.
+          let small = within-limit coefficient-limit (getD y p (pos 0)) (A .none-beyond p l) in
+          not-beyond coefficient-limit (getD z p (pos 0)) (rw (g p l, natAbs-neg (getD y p (pos 0))) small);
     })

@@ -3,10 +3,11 @@ use mathlib.Core.Path.{_≡_}
 use mathlib.Core.Bool.{Bool, false}
 use mathlib.Core.List.{List}
 use Prim.Native.Nat.{ℕ, _<_}
-use lib.IntN.{ℤ, pos}
-use lib.ListN.{length, getD}
-use Rattle.limits.specs.Limits.{places}
-use Rattle.quantizer.specs.Quantizer.{Steps, dequantized-beyond}
+use lib.IntN.{ℤ}
+use lib.ListN.{length}
+use Rattle.integers.specs.Range.{beyond-at}
+use Rattle.limits.specs.Limits.{places, dequantized-limit}
+use Rattle.quantizer.specs.Quantizer.{Steps}
 
 -- 64 numbers, 64 steps in range, and room for 64 numbers
 pub record Ready (n : ℕ) (steps : List ℕ) (m : ℕ) : Type 0 where
@@ -19,13 +20,7 @@ pub record Allowed (faulty : ℕ → Bool) (n : ℕ) (steps : List ℕ) (m : ℕ
   pub ready : Ready n steps m
   pub none-beyond : (p : ℕ) → p < places → faulty p ≡ false
 
--- products: dequantized coefficients as 64-bit numbers
-
--- the one at the place p is beyond the limit
-abbrev pub product-beyond-at : List ℤ → ℕ → Bool
-product-beyond-at z p = dequantized-beyond (getD z p (pos 0))
-
--- 64 of them, none beyond the limit
+-- 64 dequantized coefficients, as 64-bit numbers, none beyond the limit
 pub record Narrow (z : List ℤ) : Type 0 where
   pub size : length z ≡ places
-  pub narrow-at : (p : ℕ) → p < places → product-beyond-at z p ≡ false
+  pub narrow-at : (p : ℕ) → p < places → beyond-at dequantized-limit z p ≡ false

@@ -12,7 +12,7 @@ use lib.ListN.{getD}
 use lib.Signed.{ltZ, natAbs-le}
 use mir.Syntax.{w32}
 use mir.Val.{SFits}
-use borrow.Author.Tests.{ltb-true, ltb-false, le-ltb, ne-eqb}
+use borrow.Author.Tests.{ltb-true, ltb-false, le-ltb}
 use Rattle.integers.specs.Nearest.{Rounded, Away, half-up, half-away}
 use Rattle.integers.proofs.Nearest.{nearest-small, half-away-rounded, only-half-away, half-away-mirrored}
 use Rattle.integers.proofs.Magnitudes.{natAbs-mul, natAbs-add}
@@ -24,7 +24,7 @@ use Rattle.quantizer.proofs.ZigZag.{index-of-place, index-below, index-
 -- a step in range
 pub inside : (s : ℕ) → step-outside s ≡ false → (0 < s) × (s ≤ step-limit)
 inside zero e = absurd (subst T e tt)
-inside (suc n) e = (omega arith, ltb-false step-limit (suc n) (rw (ne-eqb (suc n) 0 (λ z. omega arith)) at e))
+inside (suc n) e = (omega arith, ltb-false step-limit (suc n) (rw (le-ltb (suc n) 1 (omega arith)) at e))
 
 -- that of each place is
 pub step-inside : {steps : List ℕ} → Steps steps → (p : ℕ) → p < places → (0 < step-of steps p) × (step-of steps p ≤ step-limit)

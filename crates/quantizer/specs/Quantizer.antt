@@ -1,20 +1,20 @@
 -- Quantization of a coefficient (02, request 2, as T.81 A.3.4), and 02's way back from it, dequantization.
 use mathlib.Core.Path.{_≡_}
-use mathlib.Core.Bool.{Bool, false, _||_}
+use mathlib.Core.Bool.{Bool, false}
 use mathlib.Core.List.{List}
 use Prim.Native.Nat.{ℕ, _*_, _<_}
-use lib.Dec.{eqb, ltb}
-use lib.IntN.{ℤ, pos, _*ℤ_, natAbs}
+use lib.IntN.{ℤ, pos, _*ℤ_}
 use lib.ListN.{length, getD}
 use Rattle.integers.specs.Nearest.{half-away}
-use Rattle.limits.specs.Limits.{places, step-limit, dequantized-limit}
+use Rattle.integers.specs.Range.{outside}
+use Rattle.limits.specs.Limits.{places, step-limit}
 use Rattle.quantizer.specs.ZigZag.{index-of}
 
 -- quantization steps
 
 -- "Steps are 1 to 1,024": cause 10 of a step
 abbrev pub step-outside : ℕ → Bool
-step-outside step = eqb step 0 || ltb step-limit step
+step-outside step = outside (pos 1) (pos step-limit) (pos step)
 
 -- at the index k of a list
 abbrev pub step-outside-at : List ℕ → ℕ → Bool
@@ -42,7 +42,3 @@ quantized y step = half-away y (divisor step)
 -- "The way back is the kept number times 8 × step"
 abbrev pub dequantized : ℤ → ℕ → ℤ
 dequantized q step = pos (divisor step) *ℤ q
-
--- cause 11: "on the way back a result beyond ±4,198,399"
-abbrev pub dequantized-beyond : ℤ → Bool
-dequantized-beyond z = ltb dequantized-limit (natAbs z)

@@ -5,8 +5,9 @@ ghost use mathlib.Core.Path.{_≡_};
 ghost use Prim.Native.Nat.{_<_, _+_, _*_, _/_, _≤_};
 ghost use lib.IntN.{natAbs};
 ghost use lib.ListN.{length};
+ghost use Rattle.integers.specs.Range.{beyond};
 ghost use Rattle.integers.specs.Search.{any, first};
-ghost use Rattle.limits.specs.Limits.{coefficient-limit, places, step-limit};
+ghost use Rattle.limits.specs.Limits.{coefficient-limit, dequantized-limit, places, step-limit};
 ghost use Rattle.quantizer.specs.Quantizer as spec;
 ghost use Rattle.quantizer.specs.ZigZag.{indices-by-row};
 use integers::magnitude;
@@ -93,7 +94,7 @@ pub fn indices() -> [u8; PLACES]
 fn step_outside(step: u32) -> bool
     ensures { λ r. ⌜ r ≡ spec.step-outside step ⌝ }
 {
-    (step == 0) | (STEP_LIMIT < step)
+    (step < 1) | (STEP_LIMIT < step)
 }
 
 // Whether any of 64 steps is. The loop has no early exit, so that the compiler takes several at a time.
@@ -164,7 +165,7 @@ pub fn dequantized(q: i32, step: u32) -> i64
 
 // Whether a dequantized coefficient is beyond its limit.
 pub fn dequantized_beyond(z: i64) -> bool
-    ensures { λ r. ⌜ r ≡ spec.dequantized-beyond z ⌝ }
+    ensures { λ r. ⌜ r ≡ beyond dequantized-limit z ⌝ }
 {
     (z < -DEQUANTIZED_LIMIT) | (DEQUANTIZED_LIMIT < z)
 }

@@ -1,8 +1,8 @@
 -- The code's own sums and its shifts, read from their bits: each fits, and is what the formula says.
 -- Assumes nothing.
-use mathlib.Core.Path.{_≡_, sym, ap, ap₂, _∙_}
+use mathlib.Core.Path.{_≡_, refl, sym, ap, ap₂, _∙_}
 use mathlib.Core.List.{List}
-use Prim.Native.Nat.{ℕ, suc, _+_, _/_, _^_, _≤_, _<_, zero-le}
+use Prim.Native.Nat.{ℕ, suc, _+_, _-_, _*_, _/_, _^_, _≤_, _<_, zero-le}
 use native.Mathlib.Nat.{lt-of-le-of-lt, add-zero, div-eq-of-lt}
 use native.Mathlib.Numerals.{add-one}
 use native.Mathlib.Omega.{arith}
@@ -17,10 +17,11 @@ use Rattle.integers.proofs.Magnitudes.{natAbs-add, small-fits}
 use Rattle.integers.proofs.Nearest.{lowered, half-away-shifted}
 use Rattle.integers.proofs.Signed.{in32, in64, kept, read-i32, shift-kept}
 use Rattle.ring.specs.Element.{component}
-use Rattle.limits.specs.Limits.{halvings}
 use Rattle.rounding_error.specs.Width.{numerator, coefficient}
 use Rattle.rounding_error.proofs.Bounds.{double}
-use Rattle.rounding.proofs.Sizes.{largest, Sized, partial, partial-none, partial-more}
+use Rattle.rounding.specs.Preconditions.{Allowed, Halvings}
+use Rattle.rounding.proofs.Tables.{width-small}
+use Rattle.rounding.proofs.Sizes.{largest, partial, partial-none, partial-more}
 use Rattle.rounding.proofs.Sizes.{partial-small, term-small, number-less, component-small, numerator-small, coefficient-fits}
 
 -- s + x·y is v, and the product and the sum fit
@@ -51,31 +52,35 @@ lowered-small : (z : ℤ) → natAbs (lowered z) ≤ natAbs z + 1
 lowered-small (pos a) = omega arith
 lowered-small (negsuc a) = omega arith
 
-module _ {b : ℕ} {m u : List ℤ} (B : Sized b m u) where
+module _ {b : ℕ} {m u : List ℤ} (A : Allowed b m u) where
   read : (k : ℕ) → in32 (component u k) ≡ component u k
-  read k = kept w32 (component u k) (lt-of-le-of-lt (component-small B k) (lit< tt))
+  read k = kept w32 (component u k) (lt-of-le-of-lt (component-small A k) (lit< tt))
 
   power-kept : {p : ℤ} → p ≡ pos (2 ^ b) → in64 p ≡ pos (2 ^ b)
-  power-kept {p} e = kept w64 p (rw e (lt-of-le-of-lt (pow-mono (B .width-bound)) (lit< tt))) ∙ e
+  power-kept {p} e = kept w64 p (rw e (lt-of-le-of-lt (pow-mono (width-small b (A .at-width))) (lit< tt))) ∙ e
 
   -- the power p times u_0
   pub first-step : {p : ℤ} → p ≡ pos (2 ^ b) → ProductAdded (pos 0) (in64 p) (in32 (component u 0)) (partial b m u 0)
   first-step {p} e =
       let f : in64 p *ℤ in32 (component u 0) ≡ partial b m u 0 =
       ap₂ _*ℤ_ (power-kept e) (read 0) ∙ sym (partial-none b m u) in
-      record { product-small = rw f (partial-small B 0 zero-le); value = rw f (+ℤ-idl (partial b m u 0)); value-small = partial-small B 0 zero-le }
+      record { product-small = rw f (partial-small A 0 zero-le); value = rw f (+ℤ-idl (partial b m u 0)); value-small = partial-small A 0 zero-le }
 
   -- m_(k+1) times u_(k+1), to the sum whose bits are n
   pub next-step : (k : ℕ) → k < 7 → (n : ℕ) → toZ w64 n ≡ partial b m u k
       → ProductAdded (toZ w64 n) (in64 (component m k)) (in32 (component u (k + 1))) (partial b m u (k + 1))
   next-step k h n e =
       let f : in64 (component m k) *ℤ in32 (component u (k + 1)) ≡ component m k *ℤ component u (suc k) =
-      ap₂ _*ℤ_ (kept w64 (component m k) (lt-of-le-of-lt (number-less B k h) (lit< tt))) (read (k + 1) ∙ ap (component u) (add-one k)) in
+      ap₂ _*ℤ_ (kept w64 (component m k) (lt-of-le-of-lt (number-less A k h) (lit< tt))) (read (k + 1) ∙ ap (component u) (add-one k)) in
       record {
-        product-small = rw f (term-small B k h);
+        product-small = rw f (term-small A k h);
         value = ap₂ _+ℤ_ e f ∙ sym (partial-more b m u k) ∙ ap (partial b m u) (sym (add-one k));
-        value-small = rw (add-one k) (partial-small B (suc k) h);
+        value-small = rw (add-one k) (partial-small A (suc k) h);
       }
+
+  -- the coefficient r of a call, as it is stored
+  pub coefficient-kept : {h : ℕ} → Halvings h → {r : ℤ} → r ≡ coefficient h b m u → in32 r ≡ coefficient h b m u
+  coefficient-kept {h} H e = rw e (read-i32 (coefficient h b m u) (coefficient-fits A H))
 
   -- the numerator n, less 1 where it is negative; twice the quotient; and the coefficient
 
@@ -84,7 +89,7 @@ module _ {b : ℕ} {m u : List ℤ} (B : Sized b m u) where
     N = numerator b m u
 
     below : natAbs N < 2 ^ 63
-    below = lt-of-le-of-lt (numerator-small B) (lit< tt)
+    below = lt-of-le-of-lt (numerator-small A) (lit< tt)
 
     kept-N : in64 n ≡ N
     kept-N = kept w64 n (rw e below) ∙ e
@@ -100,41 +105,40 @@ module _ {b : ℕ} {m u : List ℤ} (B : Sized b m u) where
 
     lowered-fits : SFits w64 (lowered N)
     lowered-fits =
-        let small : natAbs (lowered N) ≤ largest + 1 = omega (arith, lowered-small N, numerator-small B) in
+        let small : natAbs (lowered N) ≤ largest + 1 = omega (arith, lowered-small N, numerator-small A) in
         small-fits w64 (lowered N) (lt-of-le-of-lt small (lit< tt))
 
     pub sum-fits : SFits w64 (in64 n +ℤ sign)
     sum-fits = rw sum-kept lowered-fits
 
-    abbrev twice : ℤ
-    twice = in64 (shrZ (in64 (in64 n +ℤ sign)) (2 ^ b))
+    module _ {h : ℕ} (H : Halvings h) where
+      abbrev twice : ℤ
+      twice = in64 (shrZ (in64 (in64 n +ℤ sign)) (2 ^ (b + h - 1)))
 
-    twice-kept : twice ≡ shrZ (lowered N) (2 ^ b)
-    twice-kept = rw sum-kept (shift-kept w64 (lowered N) (2 ^ b) lowered-fits)
+      twice-kept : twice ≡ shrZ (lowered N) (2 ^ (b + h - 1))
+      twice-kept = rw sum-kept (shift-kept w64 (lowered N) (2 ^ (b + h - 1)) lowered-fits)
 
-    more-fits : SFits w64 (shrZ (lowered N) (2 ^ b) +ℤ pos 1)
-    more-fits =
-        let q = shrZ (lowered N) (2 ^ b) in
-        let small : natAbs (q +ℤ pos 1) ≤ largest + 2 = omega (arith, natAbs-add q (pos 1), shrZ-small (lowered N) (2 ^ b), lowered-small N, numerator-small B) in
-        small-fits w64 (q +ℤ pos 1) (lt-of-le-of-lt small (lit< tt))
+      more-fits : SFits w64 (shrZ (lowered N) (2 ^ (b + h - 1)) +ℤ pos 1)
+      more-fits =
+          let q = shrZ (lowered N) (2 ^ (b + h - 1)) in
+          let small : natAbs (q +ℤ pos 1) ≤ largest + 2 = omega (arith, natAbs-add q (pos 1), shrZ-small (lowered N) (2 ^ (b + h - 1)), lowered-small N, numerator-small A) in
+          small-fits w64 (q +ℤ pos 1) (lt-of-le-of-lt small (lit< tt))
 
-    pub one-more-fits : SFits w64 (twice +ℤ pos 1)
-    one-more-fits = rw twice-kept more-fits
+      pub one-more-fits : SFits w64 (twice +ℤ pos 1)
+      one-more-fits = rw twice-kept more-fits
 
-    abbrev rounded : ℤ
-    rounded = in64 (shrZ (in64 (twice +ℤ pos 1)) (2 ^ 1))
+      abbrev rounded : ℤ
+      rounded = in64 (shrZ (in64 (twice +ℤ pos 1)) (2 ^ 1))
 
-    rounded-kept : rounded ≡ coefficient halvings b m u
-    unfolding coefficient
-    rounded-kept =
-        rw twice-kept (shift-kept w64 (shrZ (lowered N) (2 ^ b) +ℤ pos 1) 2 more-fits ∙ sym (half-away-shifted (2 ^ b) (double b) (pow-pos b) N))
+      rounded-kept : rounded ≡ coefficient h b m u
+      unfolding coefficient
+      rounded-kept =
+          let power : 2 ^ (b + h) ≡ 2 * 2 ^ (b + h - 1) = let k : b + h ≡ b + h - 1 + 1 = omega arith in ap (λ (n : ℕ). 2 ^ n) k ∙ double (b + h - 1) in
+          rw twice-kept
+          (shift-kept w64 (shrZ (lowered N) (2 ^ (b + h - 1)) +ℤ pos 1) 2 more-fits ∙ sym (half-away-shifted (2 ^ (b + h - 1)) power (pow-pos (b + h - 1)) N))
 
-    pub rounded-fits : SFits w32 rounded
-    rounded-fits = rw rounded-kept (coefficient-fits B)
+      pub rounded-fits : SFits w32 rounded
+      rounded-fits = rw rounded-kept (coefficient-fits A H)
 
-    pub rounded-read : in32 rounded ≡ coefficient halvings b m u
-    rounded-read = rw rounded-kept (read-i32 (coefficient halvings b m u) (coefficient-fits B))
-
-  -- the coefficient r of a call, as it is stored
-  pub coefficient-kept : {r : ℤ} → r ≡ coefficient halvings b m u → in32 r ≡ coefficient halvings b m u
-  coefficient-kept e = rw e (read-i32 (coefficient halvings b m u) (coefficient-fits B))
+      pub rounded-read : in32 rounded ≡ coefficient h b m u
+      rounded-read = rw rounded-kept (coefficient-kept H refl)

@@ -6,15 +6,24 @@ use lib.Dec.{T}
 use lib.IntN.{ℤ, pos}
 use lib.ListN.{length}
 use Rattle.ring.specs.Element.{component, magnitudes}
-use Rattle.limits.specs.Limits.{places, magnitudes-limit}
+use Rattle.limits.specs.Limits.{sample-limit, magnitudes-limit-in}
 use Rattle.element_sets.specs.Sets.{AcceptedSet}
 use Rattle.rounding.specs.Tables.{width, table-numbers}
 
--- for a coefficient of u at b: m are the table numbers of a width, and u is within the limit
+-- the limit of magnitudes that the code allows for: that of three dimensions, 2^26, which is above that of two
+abbrev pub ample-limit : ℕ
+ample-limit = magnitudes-limit-in sample-limit 3
+
+-- for N of u at b: m are the table numbers of a width, and u is within the limit
 pub record Allowed (b : ℕ) (m u : List ℤ) : Type 0 where
   pub at-width : T (width b)
   pub are-numbers : m ≡ table-numbers b
-  pub in-limit : magnitudes u ≤ magnitudes-limit
+  pub in-limit : magnitudes u ≤ ample-limit
+
+-- h halvings are one at least, and no more than in four dimensions
+pub record Halvings (h : ℕ) : Type 0 where
+  pub some : 1 ≤ h
+  pub few : h ≤ 5
 
 -- the components of u besides u_0 whose indices have the remainder h by 2 are 0
 pub record HalfZero (h : ℕ) (u : List ℤ) : Type 0 where
@@ -26,8 +35,9 @@ pub data Terms (u : List ℤ) : ℕ → ℕ → Type 0 where
   odds : HalfZero 0 u → Terms u 0 2
   evens : HalfZero 1 u → Terms u 1 2
 
--- for all 64: the elements are an accepted set, there is room for 64 coefficients, and b is a width
-pub record Ready (elements : List ℤ) (b : ℕ) (coefficients : List ℤ) : Type 0 where
-  pub ready-set : AcceptedSet places magnitudes-limit elements
-  pub coefficients-length : length coefficients ≡ places
+-- for the coefficients of n elements, with h halvings: they are an accepted set, there is room for n coefficients, and b is a width
+pub record Ready (n h : ℕ) (elements : List ℤ) (b : ℕ) (coefficients : List ℤ) : Type 0 where
+  pub ready-set : AcceptedSet n ample-limit elements
+  pub ready-room : length coefficients ≡ n
   pub ready-width : T (width b)
+  pub ready-halvings : Halvings h

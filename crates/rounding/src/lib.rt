@@ -3,8 +3,9 @@
 // `round` takes any buffers and any b. An accepted call leaves the formula's 64 numbers, each within the promised distance (`AllNear`) of half
 // of its element's value; a refused one leaves the buffer as it was, and names the first cause.
 //
-// 64 bits suffice: no table number is above 2^(b+1), nor b above 26, so that N and its terms are at most 2^27 times the limit of the magnitudes
-// (`largest`), which is 2^49. In 32 bits the products would wrap at each b.
+// The functions for one element take its halvings, and serve two and three dimensions. 64 bits suffice: no table number is above 2^(b+1), nor b above
+// 26, so that N and its terms are at most 2^27 times the limit of the magnitudes (`largest`): for that of three dimensions, 2^26, this is 2^53. In 32
+// bits the products would wrap at each b.
 ghost use mathlib.Core.Path.{_≡_};
 ghost use mathlib.Core.Bool.{false};
 ghost use Prim.Native.Nat.{_^_, _<_};
@@ -12,17 +13,20 @@ ghost use lib.Dec.{T};
 ghost use lib.IntN.{pos, _+ℤ_, _*ℤ_};
 ghost use mir.Syntax.{w64};
 ghost use mir.Val.{SFits};
-ghost use Rattle.limits.specs.Limits.{halvings};
+ghost use Rattle.limits.specs.Limits.{halvings, places};
 ghost use Rattle.rounding_error.specs.Width as widths;
-ghost use Rattle.answers.specs.Answer.{returned, accepted};
-ghost use Rattle.rounding.specs.Preconditions.{Allowed, HalfZero, Ready, Terms};
-ghost use Rattle.rounding.specs.Rounding.{AllNear, coefficients-of, round-coefficients, round-returned};
+ghost use Rattle.answers.specs.Answer.{accept, accepted, answered, returned};
+ghost use Rattle.answers.specs.Job.{job-left, job-returned};
+ghost use Rattle.rounding.specs.Preconditions.{Allowed, HalfZero, Halvings, Ready, Terms};
+ghost use Rattle.rounding.specs.Rounding.{AllNear, coefficients-of, round-causes, round-job};
 ghost use Rattle.rounding.specs.Tables as tables;
 use answers::Answer;
+use answers::number;
 use element_sets::first_above;
 use elements::Element;
 use elements::element_at;
 use limits::COMPONENTS;
+use limits::HALVINGS;
 use limits::MAGNITUDES_LIMIT;
 use limits::PLACES;
 
@@ -132,44 +136,44 @@ fn numerator(u: Element, b: u32, numbers: [i64; 7]) -> i64
     sum_of_terms(u, b, numbers, 0, 1)
 }
 
-// The whole number nearest to N/2^(b+1); a half goes away from zero. Twice that quotient, rounded down, plus 1, divided by 2 and rounded down, is the
-// nearest number, at a half the upper one. From a negative N first 1 is taken, since `n >> 63` is -1 for it and 0 for others: its half then goes down,
-// and nothing else changes.
-fn coefficient(u: Element, b: u32, numbers: [i64; 7]) -> i32
+// The whole number nearest to N/2^(b+h), with h halvings; a half goes away from zero. Twice that quotient, rounded down, plus 1, divided by 2 and rounded
+// down, is the nearest number, at a half the upper one. From a negative N first 1 is taken, since `n >> 63` is -1 for it and 0 for others: its half then
+// goes down, and nothing else changes.
+fn coefficient(u: Element, b: u32, halvings: u32, numbers: [i64; 7]) -> i32
     requires { ⌜ Allowed b numbers (u .components) ⌝ }
+    requires { ⌜ Halvings halvings ⌝ }
     ensures { λ r. ⌜ r ≡ widths.coefficient halvings b numbers (u .components) ⌝ }
 {
     let n = numerator(u, b, numbers);
-    let twice = (n + (n >> 63)) >> b;
+    let twice = (n + (n >> 63)) >> (b + halvings - 1);
     let y = (twice + 1) >> 1;
     y as i32
 }
 
-// Every coefficient of an accepted set.
+// Every coefficient of an accepted set. Its places and halvings are constants: as parameters they have the compiler work it into the loop over a sheet's
+// blocks, which then takes longer.
 pub fn fill(elements: &[i32], b: u32, coefficients: &mut [i32])
-    requires { ⌜ Ready (now elements) b (now coefficients) ⌝ }
+    requires { ⌜ Ready places halvings (now elements) b (now coefficients) ⌝ }
     ensures { λ r. ⌜ now (coefficients .exit) ≡ coefficients-of 2 b (now (elements .entry)) ⌝ }
 {
     let numbers = numbers_at(b);
     let mut i = 0;
     while i < PLACES {
         let u = element_at(elements, i);
-        let y = coefficient(u, b, numbers);
+        let y = coefficient(u, b, HALVINGS, numbers);
         coefficients[i] = y;
         i += 1;
     }
 }
 
-// The coefficients of 64 elements at the width b, or why they are refused.
-pub fn round(elements: &[i32], b: u32, coefficients: &mut [i32]) -> Answer
-    ensures { λ r. ⌜ returned r ≡ round-returned 2 (now (elements .entry)) b (now (coefficients .entry)) ⌝ }
-    ensures { λ r. ⌜ now (coefficients .exit) ≡ round-coefficients 2 (now (elements .entry)) b (now (coefficients .entry)) ⌝ }
-    ensures { λ r. ⌜ (T (accepted (returned r)) → AllNear 2 (now (elements .entry)) b (now (coefficients .exit))) ⌝ }
+// Whether a call is accepted, or why it is refused, for a buffer of `room` coefficients.
+fn check(elements: &[i32], b: u32, room: usize) -> Answer
+    ensures { λ r. ⌜ returned r ≡ answered (round-causes 2 (now (elements .entry)) b room) accept ⌝ }
 {
     if elements.len() != COMPONENTS {
         return Answer::Lengths;
     }
-    if coefficients.len() != PLACES {
+    if room != PLACES {
         return Answer::Lengths;
     }
     if !is_width(b) {
@@ -179,6 +183,20 @@ pub fn round(elements: &[i32], b: u32, coefficients: &mut [i32]) -> Answer
     if p < PLACES {
         return Answer::Magnitudes(p);
     }
-    fill(elements, b, coefficients);
     Answer::Accepted(0)
+}
+
+// The coefficients of 64 elements at the width b, or why they are refused.
+pub fn round(elements: &[i32], b: u32, coefficients: &mut [i32]) -> Answer
+    ensures { λ r. ⌜ returned r ≡ job-returned (round-job 2 (now (elements .entry)) b (now (coefficients .entry))) ⌝ }
+    ensures { λ r. ⌜ now (coefficients .exit) ≡ job-left (round-job 2 (now (elements .entry)) b (now (coefficients .entry))) ⌝ }
+    ensures { λ r. ⌜ (T (accepted (returned r)) → AllNear 2 (now (elements .entry)) b (now (coefficients .exit))) ⌝ }
+    ensures { λ r. ⌜ now (elements .exit) ≡ now (elements .entry) ⌝ }
+{
+    let answer = check(elements, b, coefficients.len());
+    if number(answer) != 0 {
+        return answer;
+    }
+    fill(elements, b, coefficients);
+    answer
 }

@@ -33,6 +33,10 @@ at-most-no p q h = yes-less q p (leZ-no h)
 pub less-no : (p q : Fraction) → T (not (less p q)) → T (at-most q p)
 less-no p q h = let k : cross q p ≤ℤ cross p q = ltZ-no h in k .le
 
+-- fractions over one number
+pub same-lower : (p q : Fraction) → p .lower ≡ q .lower → p .upper ≤ℤ q .upper → T (at-most p q)
+same-lower p q e h = let all : cross p q ≤ℤ cross q p = rw e (≤ℤ-*ℤ (q .lower) h) in all .le
+
 -- transitivity
 
 swap : (a b c : ℤ) → a *ℤ (b *ℤ c) ≡ c *ℤ (b *ℤ a)
@@ -54,6 +58,11 @@ pub at-most-less : (p q r : Fraction) → T (at-most p q) → T (less q r) → T
 at-most-less p q r h k =
     T-not-not (less p r) (not-T (not (less p r))
     (λ t. clashℤ (less-yes q p (less-at-most q r p k (less-no p r t))) (at-most-yes p q h)))
+
+pub at-most-trans : (p q r : Fraction) → T (at-most p q) → T (at-most q r) → T (at-most p r)
+at-most-trans p q r h k =
+    T-not-not (at-most p r) (not-T (not (at-most p r))
+    (λ t. clashℤ (less-yes r q (less-at-most r p q (at-most-no p r t) h)) (at-most-yes q r k)))
 
 -- squares
 

@@ -8,27 +8,20 @@ use lib.IntN.{ℤ, pos, negsuc, _+ℤ_, _-ℤ_, _*ℤ_, natAbs, *ℤ-comm}
 use lib.Signed.{_≤ℤ_, _<ℤ_}
 use mir.Facts.{and-yes}
 use Rattle.integers.proofs.Integer.{as-dif, dif-le, dif-lt, difs, *ℤ-<ℤ-cancel, ≤ℤ-antisym, pos-≤ℤ}
-use Rattle.rounding_error.specs.Fraction.{Fraction, whole}
+use Rattle.rounding_error.specs.Fraction.{whole}
 use Rattle.rounding_error.specs.Root.{root, below, above}
-use Rattle.rounding_error.specs.Width.{over-power, table-number}
+use Rattle.rounding_error.specs.Width.{less-by, more-by, table-number}
 use Rattle.rounding_error.proofs.Order.{less-yes}
 use Rattle.rounding_error.proofs.Below.{below-less-above}
 use Rattle.rounding_error.proofs.Some.{quarter, between}
 
--- (2m - 1)/2^(b+1) and (2m + 1)/2^(b+1)
-abbrev pub under : ℕ → ℤ → Fraction
-under b m = over-power (pos 2 *ℤ m -ℤ pos 1) (b + 1)
-
-abbrev pub over : ℕ → ℤ → Fraction
-over b m = over-power (pos 2 *ℤ m +ℤ pos 1) (b + 1)
-
-pub under-below : (b k : ℕ) (m : ℤ) → T (table-number b k m) → T (below (root k) (under b m))
+pub under-below : (b k : ℕ) (m : ℤ) → T (table-number b k m) → T (below (root k) (less-by 1 b m))
 unfolding table-number
-under-below b k m t = and-yes (below (root k) (under b m)) (above (root k) (over b m)) t .0
+under-below b k m t = and-yes (below (root k) (less-by 1 b m)) (above (root k) (more-by 1 b m)) t .0
 
-pub over-above : (b k : ℕ) (m : ℤ) → T (table-number b k m) → T (above (root k) (over b m))
+pub over-above : (b k : ℕ) (m : ℤ) → T (table-number b k m) → T (above (root k) (more-by 1 b m))
 unfolding table-number
-over-above b k m t = and-yes (below (root k) (under b m)) (above (root k) (over b m)) t .1
+over-above b k m t = and-yes (below (root k) (less-by 1 b m)) (above (root k) (more-by 1 b m)) t .1
 
 -- as m and n are whole numbers
 halves : (m n : ℤ) → (pos 2 *ℤ m -ℤ pos 1) <ℤ (pos 2 *ℤ n +ℤ pos 1) → m ≤ℤ n
@@ -38,7 +31,7 @@ halves m n h =
 
 at-most-other : (b k : ℕ) (m n : ℤ) → T (table-number b k m) → T (table-number b k n) → m ≤ℤ n
 at-most-other b k m n s t =
-    let first = less-yes (under b m) (over b n) (below-less-above (root k) (under b m) (over b n) (under-below b k m s) (over-above b k n t)) in
+    let first = less-yes (less-by 1 b m) (more-by 1 b n) (below-less-above (root k) (less-by 1 b m) (more-by 1 b n) (under-below b k m s) (over-above b k n t)) in
     halves m n (*ℤ-<ℤ-cancel (2 ^ (b + 1)) (rw (*ℤ-comm (pos 2 *ℤ m -ℤ pos 1) (pos (2 ^ (b + 1))), *ℤ-comm (pos 2 *ℤ n +ℤ pos 1) (pos (2 ^ (b + 1)))) at first))
 
 pub only-table-number : (b k : ℕ) (m n : ℤ) → T (table-number b k m) → T (table-number b k n) → m ≡ n
@@ -66,5 +59,5 @@ number-small b k l h m t =
     let two = whole (pos 2) in
     let D = 2 ^ (b + 1) in
     small m D
-    (above-zero m (pos D) (pos-≤ℤ zero-le) (less-yes quarter (over b m) (below-less-above (root k) quarter (over b m) (between k l h .0) (over-above b k m t))))
-    (below-double m (pos D) (less-yes (under b m) two (below-less-above (root k) (under b m) two (under-below b k m t) (between k l h .1))))
+    (above-zero m (pos D) (pos-≤ℤ zero-le) (less-yes quarter (more-by 1 b m) (below-less-above (root k) quarter (more-by 1 b m) (between k l h .0) (over-above b k m t))))
+    (below-double m (pos D) (less-yes (less-by 1 b m) two (below-less-above (root k) (less-by 1 b m) two (under-below b k m t) (between k l h .1))))

@@ -27,6 +27,13 @@ pub record TableAt (b : ℕ) (m : List ℤ) : Type 0 where
 unfoldable pub numerator : ℕ → List ℤ → List ℤ → ℤ
 numerator b m u = pos (2 ^ b) *ℤ component u 0 +ℤ sum (pos 0) _+ℤ_ 7 (λ k. component m k *ℤ component u (suc k))
 
+-- for the theorems on a value against N: z/2^b less L/2^(b+1), and as much more
+abbrev pub less-by : ℕ → ℕ → ℤ → Fraction
+less-by L b z = over-power (pos 2 *ℤ z -ℤ pos L) (b + 1)
+
+abbrev pub more-by : ℕ → ℕ → ℤ → Fraction
+more-by L b z = over-power (pos 2 *ℤ z +ℤ pos L) (b + 1)
+
 -- the coefficient, for the 2^s-th part of an element's value: the whole number nearest to N/2^(b+s), where a half goes away from zero (02, request 3)
 unfoldable pub coefficient : ℕ → ℕ → List ℤ → List ℤ → ℤ
 coefficient s b m u = half-away (numerator b m u) (2 ^ (b + s))

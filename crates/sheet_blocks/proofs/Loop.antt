@@ -7,26 +7,24 @@ use native.Mathlib.Nat.{not-suc-le-zero}
 use native.Mathlib.Omega.{arith}
 use lib.IntN.{ℤ, pos}
 use lib.ListN.{length}
-use Rattle.limits.specs.Limits.{components-size}
-use Rattle.element_sets.specs.Sets.{elements-of}
 use Rattle.sheet_checks.specs.Check.{blocks}
 use Rattle.sheet_blocks.specs.Preconditions.{Advanced, Checked}
 use Rattle.sheet_blocks.specs.declared.Totals.{Totals}
-use Rattle.sheet_blocks.specs.Blocks.{block}
+use Rattle.sheet_blocks.specs.Blocks.{Scratch, block}
 use Rattle.sheet_blocks.specs.Sums.{Agree}
 use Rattle.sheet_blocks.proofs.Sums.{agree-none}
 
--- k blocks are done: the scratch has the elements of the last of them, the output, which was `output₀`, their words, and t are their sums
-pub record Reached (words : List ℕ) (b : ℕ) (output₀ : List ℕ) (k : ℕ) (t : Totals) (scratch : List ℤ) (output : List ℕ) : Type 0 where
+-- k blocks are done: the scratch holds what it has of the last of them, the output, which was `output₀`, their words, and t are their sums
+pub record Reached (K : Scratch) (words : List ℕ) (b : ℕ) (output₀ : List ℕ) (k : ℕ) (t : Totals) (scratch : List ℤ) (output : List ℕ) : Type 0 where
   pub done : k ≤ blocks words
-  pub scratch-kept : length scratch ≡ components-size
+  pub scratch-kept : length scratch ≡ K .size
   pub output-kept : length output ≡ length output₀
-  pub last-block : 0 < k → scratch ≡ elements-of 2 (block words (k - 1))
+  pub last-block : 0 < k → scratch ≡ K .holds (block words (k - 1))
   pub so-far : Advanced b words 0 k output₀ output
   pub sums : Agree words output k t
 
-module _ {words : List ℕ} {b : ℕ} {output₀ : List ℕ} where
-  pub reached-none : {scratch : List ℤ} → length scratch ≡ components-size → Reached words b output₀ 0 (record { samples = pos 0; firsts = pos 0 }) scratch output₀
+module _ {K : Scratch} {words : List ℕ} {b : ℕ} {output₀ : List ℕ} where
+  pub reached-none : {scratch : List ℤ} → length scratch ≡ K .size → Reached K words b output₀ 0 (record { samples = pos 0; firsts = pos 0 }) scratch output₀
   reached-none e = record {
     done = zero-le;
     scratch-kept = e;
@@ -36,9 +34,9 @@ module _ {words : List ℕ} {b : ℕ} {output₀ : List ℕ} where
     sums = agree-none words output₀;
   }
 
-  pub reached-more : {k n : ℕ} {t r : Totals} {scratch made : List ℤ} {output left : List ℕ} → Reached words b output₀ k t scratch output → k < blocks words → n ≡ k + 1
-      → length made ≡ length scratch → length left ≡ length output → Agree words left n r → made ≡ elements-of 2 (block words k)
-      → Advanced b words k (k + 1) output left → Reached words b output₀ n r made left
+  pub reached-more : {k n : ℕ} {t r : Totals} {scratch made : List ℤ} {output left : List ℕ} → Reached K words b output₀ k t scratch output → k < blocks words → n ≡ k + 1
+      → length made ≡ length scratch → length left ≡ length output → Agree words left n r → made ≡ K .holds (block words k)
+      → Advanced b words k (k + 1) output left → Reached K words b output₀ n r made left
   reached-more {k} R h next s o T e A =
       let same : k + 1 - 1 ≡ k = omega arith in
       record {
@@ -51,8 +49,8 @@ module _ {words : List ℕ} {b : ℕ} {output₀ : List ℕ} where
       }
 
   -- what the next block asks
-  pub checked-on : {s : ℕ} {k : ℕ} {t : Totals} {scratch : List ℤ} {output : List ℕ} → Checked words b s (length output₀) → Reached words b output₀ k t scratch output
-      → Checked words b (length scratch) (length output)
+  pub checked-on : {s : ℕ} {k : ℕ} {t : Totals} {scratch : List ℤ} {output : List ℕ} → Checked K words b s (length output₀) → Reached K words b output₀ k t scratch output
+      → Checked K words b (length scratch) (length output)
   checked-on C R =
       record {
         at-width = C .at-width;

@@ -4,25 +4,24 @@
 use mathlib.Core.Path.{_≡_, sym, ap, _∙_}
 use mathlib.Core.List.{List}
 use Prim.Native.Nat.{ℕ, zero, suc, _+_, _*_, _/_, _%_, _<_}
-use native.Mathlib.Nat.{lt-of-le-of-lt, not-suc-le-zero, zero-lt-suc, zero-mul, mul-comm, mul-le-mul-left, div-lt-iff-lt-mul, div-add-mod, mod-lt}
+use native.Mathlib.Nat.{lt-of-le-of-lt, not-suc-le-zero, zero-lt-suc, zero-mul, mul-add, mul-one, mul-comm, mul-le-mul-left, div-lt-iff-lt-mul, div-add-mod, mod-lt}
 use native.Mathlib.Omega.{arith}
 use lib.Arith.{digits-div, digits-mod}
-use lib.Dec.{T, lit<}
+use lib.Dec.{T, lit<, lit≤}
 use lib.IntN.{ℤ, pos}
 use lib.ListN.{length, getD}
 use Rattle.integers.proofs.Tables.{getD-table}
-use Rattle.limits.specs.Limits.{places}
+use Rattle.limits.specs.Limits.{places, halvings}
 use Rattle.element_sets.specs.Sets.{AllInRange, elements-of}
 use Rattle.element_sets.proofs.Blocks.{block-set}
 use Rattle.rounding.specs.Preconditions.{Ready}
 use Rattle.rounding.specs.Tables.{width}
-use Rattle.rounding.proofs.Blocks.{coefficient-size}
+use Rattle.rounding.proofs.Blocks.{coefficient-size, ready}
 use Rattle.words.specs.Word.{across, coefficient-kind, down, kind, payload, payload-of, value}
 use Rattle.words.proofs.Packing.{kind-word, payload-of-below, payload-word, small-in-range, value-of-payload}
 use Rattle.sheet_checks.specs.Check.{word-at, blocks}
-use Rattle.sheet_checks.proofs.Sheets.{samples-in-range}
 use Rattle.sheet_blocks.specs.Preconditions.{Checked, Fit}
-use Rattle.sheet_blocks.specs.Blocks.{block-number, block, block-coefficients, coefficient-word, output-word}
+use Rattle.sheet_blocks.specs.Blocks.{Scratch, block-number, block, block-coefficients, coefficient-word, output-word}
 use Rattle.sheet_blocks.proofs.Output.{output-body}
 
 factor-positive : (a d : ℕ) {k : ℕ} → k < a * d → 0 < a
@@ -32,6 +31,10 @@ factor-positive (suc a) d h = zero-lt-suc a
 -- "Blocks go left to right, then down": in row i of blocks, from the top, and column j, from the left, stands one of the blocks; each block stands in
 -- one row and one column
 module _ (words : List ℕ) where
+  -- the block on the right is the next one, and the one below comes as many later as there are blocks across
+  pub reading-order : (i j : ℕ) → (block-number words i (j + 1) ≡ block-number words i j + 1) × (block-number words (i + 1) j ≡ block-number words i j + across (word-at words 0))
+  reading-order i j = (omega arith, rw (mul-add (across (word-at words 0)) i 1) (omega (arith, mul-one (across (word-at words 0)))))
+
   pub block-place : (i j : ℕ) → i < down (word-at words 0) → j < across (word-at words 0) → block-number words i j < blocks words
   block-place i j h l = omega (arith, mul-le-mul-left (across (word-at words 0)) h)
 
@@ -59,7 +62,7 @@ coefficient-kept {y} F p l =
     let below = payload-of-below z range in
     (kind-word coefficient-kind (payload-of z) below, rw (payload-word coefficient-kind (payload-of z) below) (value-of-payload z range))
 
-module _ {words : List ℕ} {b s o : ℕ} (C : Checked words b s o) (k : ℕ) (h : k < blocks words) where
+module _ {K : Scratch} {words : List ℕ} {b s o : ℕ} (C : Checked K words b s o) (k : ℕ) (h : k < blocks words) where
   -- the words of block k
   pub block-words : 1 + places * k + places < length words
   block-words = rw (C .right .right-shape .count) (omega arith)
@@ -69,7 +72,7 @@ module _ {words : List ℕ} {b s o : ℕ} (C : Checked words b s o) (k : ℕ) (h
   block-range =
       record {
         at = λ i l. rw (getD-table places (λ i. value (payload (word-at words (1 + places * k + i)))) (pos 0) i l)
-            (samples-in-range (C .right) (1 + places * k + i) (omega arith) (omega (arith, block-words)));
+            (C .right .body-range (1 + places * k + i) (omega arith) (omega (arith, block-words)));
       }
 
   pub block-fit : Fit (block-coefficients b words k)
@@ -83,5 +86,5 @@ module _ {words : List ℕ} {b s o : ℕ} (C : Checked words b s o) (k : ℕ) (h
   output-coefficient p l = rw (output-body b words k p l block-words) (coefficient-kept block-fit p l)
 
 -- what the core of rounding asks of a block whose samples are in range
-pub block-ready : {x e c : List ℤ} {b : ℕ} → AllInRange 2 x → e ≡ elements-of 2 x → length c ≡ places → T (width b) → Ready e b c
-block-ready {x} range same l w = record { ready-set = rw same (block-set 1 x range); coefficients-length = l; ready-width = w }
+pub block-ready : {x e c : List ℤ} {b : ℕ} → AllInRange 2 x → e ≡ elements-of 2 x → length c ≡ places → T (width b) → Ready places halvings e b c
+block-ready {x} {e} {c} {b} range same l w = ready 2 e b c (lit≤ tt) (lit≤ tt) (rw same (block-set 1 x range)) l w

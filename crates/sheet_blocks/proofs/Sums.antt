@@ -27,7 +27,7 @@ use Rattle.words.specs.Word.{payload, value, value-limit}
 use Rattle.words.proofs.Packing.{value-small}
 use Rattle.sheet_checks.specs.Check.{word-at, value-at, blocks}
 use Rattle.sheet_blocks.specs.declared.Totals.{Totals}
-use Rattle.sheet_blocks.specs.Blocks.{block, block-coefficients, coefficient-sheet, output-word}
+use Rattle.sheet_blocks.specs.Blocks.{Scratch, block, block-coefficients, coefficient-sheet, output-word}
 use Rattle.sheet_blocks.specs.Preconditions.{Checked, after-blocks}
 use Rattle.sheet_blocks.specs.Sums.{Agree, firsts-total, samples-total, first-sum, sample-sum}
 use Rattle.sheet_blocks.proofs.Samples.{block-words, output-coefficient}
@@ -146,9 +146,9 @@ firsts-written b words l n room =
     table-word (output-word b words) l (1 + places * n) (length words) (1 + places * j) (omega arith) room)
 
 -- "The two are equal on every accepted sheet": block by block, since a block's first coefficient is the sum of its samples
-pub sums-equal : {words : List ℕ} {b s o : ℕ} → Checked words b s o → samples-total words ≡ firsts-total b words
+pub sums-equal : {K : Scratch} {words : List ℕ} {b s o : ℕ} → Checked K words b s o → samples-total words ≡ firsts-total b words
 unfolding sample-sum first-sum coefficient-sheet block-coefficients
-sums-equal {words} {b} C =
+sums-equal {words = words} {b = b} C =
     let n = blocks words in
     let f = body-value words in
     ap (λ m. sum (pos 0) _+ℤ_ m f) (mul-comm places n) ∙ sum-blocks (pos 0) _+ℤ_ integers n places f ∙ sum-cong (pos 0) _+ℤ_ n _ _ (λ k h. by-block k h)

@@ -6,7 +6,7 @@ use lib.Dec.{eqb}
 use lib.IntN.{ℤ, pos}
 use lib.ListN.{length, getD}
 use Rattle.integers.specs.Table.{table}
-use Rattle.limits.specs.Limits.{places}
+use Rattle.limits.specs.Limits.{places, components-size}
 use Rattle.element_sets.specs.Sets.{elements-of}
 use Rattle.rounding.specs.Rounding.{coefficients-of}
 use Rattle.words.specs.Word.{across, coefficient-head-kind, coefficient-kind, payload, payload-of, value, word}
@@ -19,6 +19,15 @@ block-number words i j = across (word-at words 0) * i + j
 -- the samples of block k: "64 words each, row by row", after the head
 unfoldable pub block : List ℕ → ℕ → List ℤ
 block words k = table places (λ i. value (payload (word-at words (1 + places * k + i))))
+
+-- what a scratch is lent for: how many numbers it has, and which it holds once a block is done, by the block's samples
+pub record Scratch : Type 0 where
+  pub size : ℕ
+  pub holds : List ℤ → List ℤ
+
+-- "a scratch of exactly 512 numbers, which holds the last block's elements"
+abbrev pub element-scratch : Scratch
+element-scratch = record { size = components-size; holds = elements-of 2 }
 
 -- "the rounding at b of that block's exact elements"
 unfoldable pub block-coefficients : ℕ → List ℕ → ℕ → List ℤ

@@ -6,18 +6,18 @@ use lib.Dec.{T}
 use lib.IntN.{ℤ, pos, natAbs}
 use lib.ListN.{length, getD}
 use Rattle.integers.specs.Table.{table, over}
-use Rattle.limits.specs.Limits.{places, components-size}
+use Rattle.limits.specs.Limits.{places}
 use Rattle.rounding.specs.Tables.{width}
 use Rattle.words.specs.Word.{value-limit}
 use Rattle.sheet_checks.specs.Check.{sample-format}
 use Rattle.sheet_checks.specs.Sheets.{RightSheet}
-use Rattle.sheet_blocks.specs.Blocks.{output-word}
+use Rattle.sheet_blocks.specs.Blocks.{Scratch, output-word}
 
 -- every cause was looked for, and there is none
-pub record Checked (words : List ℕ) (b scratch-length output-length : ℕ) : Type 0 where
+pub record Checked (K : Scratch) (words : List ℕ) (b scratch-length output-length : ℕ) : Type 0 where
   pub at-width : T (width b)
   pub right : RightSheet sample-format words
-  pub scratch-size : scratch-length ≡ components-size
+  pub scratch-size : scratch-length ≡ K .size
   pub output-size : length words ≤ output-length
 
 -- 64 coefficients that words can hold

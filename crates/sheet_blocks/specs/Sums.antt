@@ -22,6 +22,10 @@ pub record Agree (words output : List ℕ) (k : ℕ) (t : Totals) : Type 0 where
   pub of-samples : t .samples ≡ sample-sum words k
   pub of-firsts : t .firsts ≡ first-sum output k
 
+-- no sums: before the first block, and beside a refusal
+abbrev pub no-totals : Totals
+no-totals = record { samples = pos 0; firsts = pos 0 }
+
 -- of a whole sample sheet, and of its coefficient sheet at the width b
 
 abbrev pub samples-total : List ℕ → ℤ
@@ -29,3 +33,7 @@ samples-total words = sample-sum words (blocks words)
 
 abbrev pub firsts-total : ℕ → List ℕ → ℤ
 firsts-total b words = first-sum (coefficient-sheet b words) (blocks words)
+
+-- both
+abbrev pub sheet-totals : ℕ → List ℕ → Totals
+sheet-totals b words = record { samples = samples-total words; firsts = firsts-total b words }

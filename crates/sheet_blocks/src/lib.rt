@@ -114,12 +114,12 @@ fn next_block(
     scratch: &mut [i32],
     output: &mut [u32],
 ) -> Progress
-    requires { ⌜ Checked (now words) b (length (now scratch)) (length (now output)) ⌝ }
+    requires { ⌜ Checked sheet.element-scratch (now words) b (length (now scratch)) (length (now output)) ⌝ }
     requires { ⌜ state .blocks < blocks (now words) ⌝ }
     requires { ⌜ Agree (now words) (now output) (state .blocks) (state .totals) ⌝ }
     ensures { λ r. ⌜ r .blocks ≡ state .blocks + 1 ⌝ }
     ensures { λ r. ⌜ Agree (now (words .entry)) (now (output .exit)) (r .blocks) (r .totals) ⌝ }
-    ensures { λ r. ⌜ now (scratch .exit) ≡ elements-of 2 (sheet.block (now (words .entry)) (state .blocks)) ⌝ }
+    ensures { λ r. ⌜ now (scratch .exit) ≡ sheet.element-scratch .holds (sheet.block (now (words .entry)) (state .blocks)) ⌝ }
     ensures { λ r. ⌜ Advanced b (now (words .entry)) (state .blocks) (state .blocks + 1) (now (output .entry)) (now (output .exit)) ⌝ }
 {
     let k = state.blocks;
@@ -137,9 +137,9 @@ fn next_block(
 
 // Every block, one after the other, and their sums.
 fn all_blocks(words: &[u32], b: u32, scratch: &mut [i32], output: &mut [u32]) -> Totals
-    requires { ⌜ Checked (now words) b (length (now scratch)) (length (now output)) ⌝ }
+    requires { ⌜ Checked sheet.element-scratch (now words) b (length (now scratch)) (length (now output)) ⌝ }
     ensures { λ r. ⌜ Agree (now (words .entry)) (now (output .exit)) (blocks (now (words .entry))) r ⌝ }
-    ensures { λ r. ⌜ now (scratch .exit) ≡ elements-of 2 (sheet.block (now (words .entry)) (blocks (now (words .entry)) - 1)) ⌝ }
+    ensures { λ r. ⌜ now (scratch .exit) ≡ sheet.element-scratch .holds (sheet.block (now (words .entry)) (blocks (now (words .entry)) - 1)) ⌝ }
     ensures { λ r. ⌜ Advanced b (now (words .entry)) 0 (blocks (now (words .entry))) (now (output .entry)) (now (output .exit)) ⌝ }
 {
     // Head and end word are fewer than a block, so that what is left of the division is theirs.
@@ -159,9 +159,9 @@ fn all_blocks(words: &[u32], b: u32, scratch: &mut [i32], output: &mut [u32]) ->
 
 // The coefficient sheet of a sample sheet in which everything was found right, and the sums of both.
 pub fn convert(words: &[u32], b: u32, scratch: &mut [i32], output: &mut [u32]) -> Totals
-    requires { ⌜ Checked (now words) b (length (now scratch)) (length (now output)) ⌝ }
+    requires { ⌜ Checked sheet.element-scratch (now words) b (length (now scratch)) (length (now output)) ⌝ }
     ensures { λ r. ⌜ Agree (now (words .entry)) (sheet.coefficient-sheet b (now (words .entry))) (blocks (now (words .entry))) r ⌝ }
-    ensures { λ r. ⌜ now (scratch .exit) ≡ elements-of 2 (sheet.block (now (words .entry)) (blocks (now (words .entry)) - 1)) ⌝ }
+    ensures { λ r. ⌜ now (scratch .exit) ≡ sheet.element-scratch .holds (sheet.block (now (words .entry)) (blocks (now (words .entry)) - 1)) ⌝ }
     ensures { λ r. ⌜ now (output .exit) ≡ over (sheet.coefficient-sheet b (now (words .entry))) (now (output .entry)) ⌝ }
 {
     output[0] = with_payload(COEFFICIENT_HEAD, payload(words[0]));

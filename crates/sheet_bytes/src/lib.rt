@@ -2,12 +2,11 @@
 // the line of a refusal.
 ghost use mathlib.Core.Path.{_≡_};
 ghost use Prim.Native.Nat.{_+_, _/_, _≤_, min};
-ghost use lib.IntN.{pos};
 ghost use lib.ListN.{length, take};
 ghost use Rattle.integers.specs.Table.{over};
 ghost use Rattle.answers.specs.Answer.{returned};
 ghost use Rattle.sheet_blocks.specs.Blocks.{coefficient-sheet};
-ghost use Rattle.sheet_blocks.specs.Sums.{firsts-total, samples-total};
+ghost use Rattle.sheet_blocks.specs.Sums.{no-totals, sheet-totals};
 ghost use Rattle.sheet_bytes.specs.Program as program;
 ghost use Rattle.sheet_bytes.specs.Program.{by-input, input-limit, input-returned, line-limit, program-width};
 use answers::Answer;
@@ -97,9 +96,9 @@ fn least(a: usize, b: usize) -> usize
 // job. The coefficient sheet goes to `output`, which a refusal leaves as it was.
 pub fn transform_input(input: &[u8], output: &mut [u32; WORDS_LIMIT]) -> SheetAnswer
     ensures { λ r. ⌜ returned (r .answer) ≡ input-returned (take input-limit (now (input .entry))) ⌝ }
-    ensures { λ r. ⌜ r .totals .samples ≡ by-input samples-total (pos 0) (take input-limit (now (input .entry))) ⌝ }
-    ensures { λ r. ⌜ r .totals .firsts ≡ by-input (firsts-total program-width) (pos 0) (take input-limit (now (input .entry))) ⌝ }
+    ensures { λ r. ⌜ r .totals ≡ by-input (sheet-totals program-width) no-totals (take input-limit (now (input .entry))) ⌝ }
     ensures { λ r. ⌜ now (output .exit) ≡ by-input (λ words. over (coefficient-sheet program-width words) (now (output .entry))) (now (output .entry)) (take input-limit (now (input .entry))) ⌝ }
+    ensures { λ r. ⌜ now (input .exit) ≡ now (input .entry) ⌝ }
 {
     let size = least(input.len(), INPUT_LIMIT);
     let count = size / 4;

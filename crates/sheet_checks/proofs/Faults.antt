@@ -1,7 +1,7 @@
 -- The words of a sheet: the cause of each by the code's tests, and the search for the first faulty one.
 -- Assumes nothing.
 use mathlib.Core.Path.{_≡_, refl, sym, ap, subst, _∙_}
-use mathlib.Core.Bool.{Bool, true, false, cond, not, _||_}
+use mathlib.Core.Bool.{Bool, true, false, cond, not}
 use mathlib.Core.List.{List, [], _∷_}
 use Prim.Native.Nat.{ℕ, suc, _<_}
 use native.Mathlib.Decide.{decLt}
@@ -9,10 +9,11 @@ use native.Mathlib.Omega.{arith}
 use lib.Dec.{T, ltb, eqb}
 use lib.IntN.{ℤ}
 use lib.ListN.{length}
-use lib.Signed.{ltZ}
 use mir.Syntax.{w32}
 use mir.Val.{SFits}
 use borrow.Author.Tests.{eq-eqb, ne-eqb, lt-ltb, ltb-true}
+use Rattle.integers.specs.Range.{outside}
+use Rattle.integers.proofs.Ranges.{ends-read}
 use Rattle.integers.proofs.Signed.{in32, read-i32}
 use Rattle.integers.specs.Search.{first, any}
 use Rattle.integers.proofs.Search.{Passed, at-first, passed-none, passed-more, Asked, asked-none, asked-more}
@@ -22,7 +23,7 @@ use Rattle.answers.proofs.Causes.{only-reason}
 use Rattle.sheet_checks.specs.declared.Format.{Format}
 use Rattle.sheet_checks.specs.declared.Values.{Values}
 use Rattle.sheet_checks.specs.declared.Values.the-variants.{Samples, Coefficients}
-use Rattle.sheet_checks.specs.Check.{out-of-range, outside, word-at, blocks, body-cause, end-cause, cause-at, faulty, contents}
+use Rattle.sheet_checks.specs.Check.{out-of-range, outside-format, word-at, blocks, body-cause, end-cause, cause-at, faulty, contents}
 
 -- the cause of a word of the body
 
@@ -36,12 +37,12 @@ module _ (f : Format) (w : ℕ) where
   unfolding body-cause
   other-kind n = rw (ne-eqb (kind w) (f .body) n)
 
-  pub of-kind : kind w ≡ f .body → body-cause f w ≡ cond (outside f (value (payload w))) (out-of-range (f .values)) 0
+  pub of-kind : kind w ≡ f .body → body-cause f w ≡ cond (outside-format f (value (payload w))) (out-of-range (f .values)) 0
   unfolding body-cause
   of-kind e = rw (eq-eqb (kind w) (f .body) e)
 
-  pub asked : kind w ≡ f .body → ltb 0 (body-cause f w) ≡ outside f (value (payload w))
-  asked e = ap (ltb 0) (of-kind e) ∙ go (outside f (value (payload w)))
+  pub asked : kind w ≡ f .body → ltb 0 (body-cause f w) ≡ outside-format f (value (payload w))
+  asked e = ap (ltb 0) (of-kind e) ∙ go (outside-format f (value (payload w)))
     where
       go : (t : Bool) → ltb 0 (cond t (out-of-range (f .values)) 0) ≡ t
       go true = lt-ltb 0 (out-of-range (f .values)) (value-named (f .values))
@@ -49,9 +50,8 @@ module _ (f : Format) (w : ℕ) where
 
   -- its value z, and the answer of `outside` to it, as they are read from their bits
   pub read-asked : kind w ≡ f .body → {z : ℤ} → z ≡ value (payload w) → SFits w32 z → SFits w32 (f .lowest) → SFits w32 (f .highest)
-      → {out : Bool} → out ≡ (ltZ (in32 z) (in32 (f .lowest)) || ltZ (in32 (f .highest)) (in32 z))
-      → out ≡ ltb 0 (body-cause f w)
-  read-asked e {z} v fz fl fh o = rw (asked e, ← v, o, read-i32 z fz, read-i32 (f .lowest) fl, read-i32 (f .highest) fh)
+      → {out : Bool} → out ≡ outside (in32 (f .lowest)) (in32 (f .highest)) (in32 z) → out ≡ ltb 0 (body-cause f w)
+  read-asked e {z} v fz fl fh o = o ∙ ends-read (λ test. test (in32 z)) (f .lowest) (f .highest) fl fh ∙ ap (outside-format f) (read-i32 z fz ∙ v) ∙ sym (asked e)
 
   pub other-value : kind w ≡ f .body → 0 < body-cause f w → body-cause f w ≡ out-of-range (f .values)
   other-value e h = of-kind e ∙ rw (sym (asked e) ∙ lt-ltb 0 (body-cause f w) h)

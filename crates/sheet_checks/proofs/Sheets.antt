@@ -10,13 +10,13 @@ use native.Mathlib.Omega.{arith}
 use lib.Dec.{T, ltb, eqb, eqb→eq}
 use lib.IntN.{natAbs}
 use lib.ListN.{length}
-use borrow.Author.Tests.{eq-eqb, lt-ltb, ltb-true, ltb-false, not-false}
-use Rattle.limits.specs.Limits.{coefficient-limit, in-range, sample-limit}
-use Rattle.limits.proofs.Range.{outside-limit, outside-range}
+use borrow.Author.Tests.{eq-eqb, lt-ltb, ltb-true, ltb-false}
+use Rattle.integers.proofs.Ranges.{within-limit}
+use Rattle.limits.specs.Limits.{coefficient-limit}
 use Rattle.words.specs.Word.{end-kind, kind, payload, value}
 use Rattle.answers.specs.Answer.{Returned, Passes, Names, faulty-at, Each, Reason, holds, passes, none-holds, accept-words, accepted}
 use Rattle.sheet_checks.specs.declared.Format.{Format}
-use Rattle.sheet_checks.specs.Check.{sample-format, coefficient-format, outside, word-at, blocks, size-of, has-head, shape, body-cause, end-cause, cause-at, contents}
+use Rattle.sheet_checks.specs.Check.{coefficient-format, outside-format, word-at, blocks, size-of, has-head, shape, body-cause, end-cause, cause-at, contents}
 use Rattle.sheet_checks.specs.Sheets as sheets
 use Rattle.sheet_checks.specs.Sheets.{RightShape, RightSheet, WordFault}
 use Rattle.sheet_checks.proofs.Faults.{value-named, other-kind, of-kind, asked, other-value, no-end, right-end, wrong-end, cause-head, cause-body, cause-end}
@@ -118,7 +118,7 @@ module _ (f : Format) (words : List ℕ) where
       body l (no k) = rw (cause-body f words (suc i) (omega arith) l ∙ other-kind f w k) (sheets.other-kind (suc i) first l k)
       body l (yes k) =
           let c = cause-body f words (suc i) (omega arith) l in
-          let out : outside f (value (payload w)) ≡ true = sym (asked f w k) ∙ ap (ltb 0) (sym c) ∙ t in
+          let out : outside-format f (value (payload w)) ≡ true = sym (asked f w k) ∙ ap (ltb 0) (sym c) ∙ t in
           rw (c ∙ other-value f w k (rw c at above)) (sheets.other-value (suc i) first l k out)
 
       end : suc (suc i) ≡ length words → Dec (kind w ≡ end-kind) → WordFault f words (record { number = cause-at f words (suc i); place = suc i })
@@ -149,15 +149,7 @@ module _ (f : Format) (words : List ℕ) where
   by-words (sheets.no-end i F l k) = named i F (omega arith) (cause-end f words i (F .0) l ∙ no-end (blocks words) (word-at words i) k) (omega arith)
   by-words (sheets.wrong-end i F l k p) = named i F (omega arith) (cause-end f words i (F .0) l ∙ wrong-end (blocks words) (word-at words i) k p) (omega arith)
 
--- the samples of a sample sheet are in range
-pub samples-in-range : {words : List ℕ} → RightSheet sample-format words → (i : ℕ) → 0 < i → suc i < length words → in-range (value (payload (word-at words i))) ≡ true
-samples-in-range {words} S i p q =
-    let z = value (payload (word-at words i)) in
-    not-false (in-range z) (sym (outside-range (sample-limit - 1) z) ∙ S .body-range i p q)
-
 -- the coefficients of a coefficient sheet are within their limit
 pub coefficients-in-limit : {words : List ℕ} → RightSheet coefficient-format words → (i : ℕ) → 0 < i → suc i < length words
     → natAbs (value (payload (word-at words i))) ≤ coefficient-limit
-coefficients-in-limit {words} S i p q =
-    let z = value (payload (word-at words i)) in
-    ltb-false coefficient-limit (natAbs z) (sym (outside-limit (coefficient-limit - 1) z) ∙ S .body-range i p q)
+coefficients-in-limit {words} S i p q = within-limit coefficient-limit (value (payload (word-at words i))) (S .body-range i p q)

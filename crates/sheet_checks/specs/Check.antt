@@ -1,12 +1,12 @@
 -- The check of a sheet of any format (01, "Sheets" and "Why a set or sheet is turned back").
-use mathlib.Core.Bool.{Bool, cond, _&&_, _||_}
+use mathlib.Core.Bool.{Bool, cond, _&&_}
 use mathlib.Core.List.{List, [], _∷_, _++_}
-use Prim.Native.Nat.{ℕ, suc, _+_, _-_, _*_}
+use Prim.Native.Nat.{ℕ, suc, _+_, _*_}
 use lib.Dec.{eqb, ltb, leb}
 use lib.IntN.{ℤ, pos, negℤ}
 use lib.ListN.{length, getD}
-use lib.Signed.{ltZ}
-use Rattle.limits.specs.Limits.{places, blocks-limit, coefficient-limit, sample-limit}
+use Rattle.integers.specs.Range.{outside}
+use Rattle.limits.specs.Limits.{places, blocks-limit, coefficient-limit, lowest-sample, highest-sample}
 use Rattle.words.specs.Word.{across, coefficient-head-kind, coefficient-kind, down, end-kind, kind, payload, sample-head-kind, sample-kind, value}
 use Rattle.answers.specs.Answer.{Cause, unless, unless-at, lowest-cause}
 use Rattle.sheet_checks.specs.declared.Format.{Format}
@@ -19,13 +19,13 @@ out-of-range Samples = 2
 out-of-range Coefficients = 11
 
 -- a value is out of the range of a format
-abbrev pub outside : Format → ℤ → Bool
-outside f z = ltZ z (f .lowest) || ltZ (f .highest) z
+abbrev pub outside-format : Format → ℤ → Bool
+outside-format f = outside (f .lowest) (f .highest)
 
 -- the format of a sample sheet
 abbrev pub sample-format : Format
 sample-format =
-    record { head = sample-head-kind; body = sample-kind; values = Samples; lowest = negℤ (pos sample-limit); highest = pos (sample-limit - 1) }
+    record { head = sample-head-kind; body = sample-kind; values = Samples; lowest = lowest-sample; highest = highest-sample }
 
 -- the format of a coefficient sheet that comes in from outside (02, request 4): "with kinds 4 and 3; a payload beyond the limit is 11"
 abbrev pub coefficient-format : Format
@@ -68,7 +68,7 @@ shape f words = unless (has-head (f .head) words) 6 ∷ unless-at (length words)
 
 -- a word of the body
 unfoldable pub body-cause : Format → ℕ → ℕ
-body-cause f w = cond (eqb (kind w) (f .body)) (cond (outside f (value (payload w))) (out-of-range (f .values)) 0) 7
+body-cause f w = cond (eqb (kind w) (f .body)) (cond (outside-format f (value (payload w))) (out-of-range (f .values)) 0) 7
 
 -- the end word of n blocks
 unfoldable pub end-cause : ℕ → ℕ → ℕ

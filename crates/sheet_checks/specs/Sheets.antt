@@ -10,7 +10,7 @@ use Rattle.words.specs.Word as format
 use Rattle.words.specs.Word.{across, down, kind, payload, value}
 use Rattle.answers.specs.Answer.{Returned}
 use Rattle.sheet_checks.specs.declared.Format.{Format}
-use Rattle.sheet_checks.specs.Check.{word-at, blocks, size-of, outside, out-of-range, cause-at}
+use Rattle.sheet_checks.specs.Check.{word-at, blocks, size-of, outside-format, out-of-range, cause-at}
 
 -- the head, with its kind and its sizes, and the count of the words
 pub record RightShape (f : Format) (words : List ℕ) : Type 0 where
@@ -25,7 +25,7 @@ pub record RightShape (f : Format) (words : List ℕ) : Type 0 where
 pub record RightSheet (f : Format) (words : List ℕ) : Type 0 where
   pub right-shape : RightShape f words
   pub body-kind : (i : ℕ) → 0 < i → suc i < length words → kind (word-at words i) ≡ f .body
-  pub body-range : (i : ℕ) → 0 < i → suc i < length words → outside f (value (payload (word-at words i))) ≡ false
+  pub body-range : (i : ℕ) → 0 < i → suc i < length words → outside-format f (value (payload (word-at words i))) ≡ false
   pub end-kind : kind (word-at words (length words - 1)) ≡ format.end-kind
   pub end-count : payload (word-at words (length words - 1)) ≡ blocks words
 
@@ -36,7 +36,7 @@ module _ (f : Format) (words : List ℕ) where
 
   pub data WordFault : Returned → Type 0 where
     other-kind : (i : ℕ) → First i → suc i < length words → (kind (word-at words i) ≡ f .body → ⊥) → WordFault (record { number = 7; place = i })
-    other-value : (i : ℕ) → First i → suc i < length words → kind (word-at words i) ≡ f .body → outside f (value (payload (word-at words i))) ≡ true
+    other-value : (i : ℕ) → First i → suc i < length words → kind (word-at words i) ≡ f .body → outside-format f (value (payload (word-at words i))) ≡ true
         → WordFault (record { number = out-of-range (f .values); place = i })
     no-end : (i : ℕ) → First i → suc i ≡ length words → (kind (word-at words i) ≡ format.end-kind → ⊥) → WordFault (record { number = 7; place = i })
     wrong-end : (i : ℕ) → First i → suc i ≡ length words → kind (word-at words i) ≡ format.end-kind → (payload (word-at words i) ≡ blocks words → ⊥)

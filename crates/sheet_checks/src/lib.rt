@@ -95,7 +95,7 @@ pub fn check_shape(f: Format, sheet: &[u32]) -> Answer
 {
     let n = blocks_of(f.head, sheet);
     if n == 0 {
-        return Answer::Head;
+        return Answer::Head(0);
     }
     if sheet.len() != size_of(n) {
         return Answer::Words(sheet.len());

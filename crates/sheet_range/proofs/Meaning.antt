@@ -11,34 +11,35 @@ use lib.Ieee.{le}
 use lib.Ieee.Exact.{HasValue}
 use lib.IntN.{ℤ, pos, natAbs}
 use lib.ListN.{length, getD}
-use borrow.Author.Tests.{le-ltb}
+use Rattle.integers.proofs.Ranges.{not-beyond}
 use Rattle.integers.proofs.Foremost.{Best, range-best}
 use Rattle.limits.specs.Limits.{places, coefficient-limit}
-use Rattle.limits.proofs.Range.{outside-limit}
-use Rattle.answers.specs.Answer.{accept, accepted}
-use Rattle.answers.proofs.Causes as causes
-use Rattle.floats.specs.Fraction.{negative, plus-zero}
+use Rattle.answers.specs.Answer.{accept}
+use Rattle.answers.specs.Job.{job-returned, job-left, Accepts}
+use Rattle.answers.proofs.Jobs.{accepted-leaves}
+use Rattle.floats.specs.Fraction.{negative}
 use Rattle.floats.proofs.Comparison.{in-order-at-most}
 use Rattle.floats.proofs.Fractions.{exact}
 use Rattle.element_sets.proofs.Blocks.{block-set}
 use Rattle.rounding.proofs.Blocks.{coefficient-size}
 use Rattle.words.specs.Word.{across, coefficient-head-kind, coefficient-kind, down, kind, payload}
-use Rattle.sheet_checks.specs.Check.{sample-format, coefficient-format, outside, word-at, value-at, blocks, size-of}
+use Rattle.sheet_checks.specs.Check.{sample-format, coefficient-format, outside-format, word-at, value-at, blocks, size-of}
 use Rattle.sheet_checks.specs.Sheets.{RightShape, RightSheet}
 use Rattle.sheet_checks.proofs.Sheets.{some-blocks}
-use Rattle.sheet_blocks.specs.Blocks.{block, block-coefficients}
+use Rattle.sheet_blocks.specs.Blocks.{Scratch, block, block-coefficients}
 use Rattle.sheet_blocks.specs.Preconditions.{Checked}
 use Rattle.sheet_blocks.proofs.Samples.{block-range, block-words}
-use Rattle.sheets.specs.Sheet.{sheet-output, sheet-returned}
+use Rattle.sheets.specs.Sheet.{sheet-job}
 use Rattle.sheets.proofs.Causes.{accepted-checked}
 use Rattle.sheets.proofs.Meaning as sheets
-use Rattle.sheet_range.specs.SheetRange.{range-returned, float-at, has-lower, has-higher, lowest-word, highest-word, lowest-float, highest-float, range-lowest, range-highest}
+use Rattle.sheet_range.specs.declared.Range.{Range}
+use Rattle.sheet_range.specs.SheetRange.{range-job, float-at, has-lower, has-higher, lowest-word, highest-word}
 use Rattle.sheet_range.proofs.Causes.{accepts, accepted-means}
 use Rattle.sheet_range.proofs.Extremes.{by-lower, by-higher, in-digits}
 
 -- an accepted call
 
-module _ (words : List ℕ) (h : T (accepted (range-returned words))) where
+module _ (words : List ℕ) (h : Accepts (range-job words)) where
   S : RightSheet coefficient-format words
   S = accepted-means words h
 
@@ -52,23 +53,24 @@ module _ (words : List ℕ) (h : T (accepted (range-returned words))) where
   highest = range-best (by-higher words) some
 
   -- it answers 0 and place 0
-  pub returns-0 : range-returned words ≡ accept
+  pub returns-0 : job-returned (range-job words) ≡ accept
   returns-0 = accepts words S
+
+  given : job-left (range-job words) ≡ range-job words .result
+  given = accepted-leaves (range-job words) h
 
   -- both floats are those of words between the head and the end word
 
   pub lowest-attained : (1 ≤ lowest-word words 1 (length words - 1)) × (suc (lowest-word words 1 (length words - 1)) < length words)
-      × (range-lowest words ≡ float-at words (lowest-word words 1 (length words - 1)))
-  unfolding range-lowest
-  lowest-attained = let l = lowest .below in (lowest .from, omega arith, causes.accepted-leaves (range-returned words) (lowest-float words) plus-zero h)
+      × (job-left (range-job words) .lowest ≡ float-at words (lowest-word words 1 (length words - 1)))
+  lowest-attained = let l = lowest .below in (lowest .from, omega arith, ap (λ (r : Range). r .lowest) given)
 
   pub highest-attained : (1 ≤ highest-word words 1 (length words - 1)) × (suc (highest-word words 1 (length words - 1)) < length words)
-      × (range-highest words ≡ float-at words (highest-word words 1 (length words - 1)))
-  unfolding range-highest
-  highest-attained = let l = highest .below in (highest .from, omega arith, causes.accepted-leaves (range-returned words) (highest-float words) plus-zero h)
+      × (job-left (range-job words) .highest ≡ float-at words (highest-word words 1 (length words - 1)))
+  highest-attained = let l = highest .below in (highest .from, omega arith, ap (λ (r : Range). r .highest) given)
 
   -- and the float of each lies between them
-  pub between : (i : ℕ) → 1 ≤ i → suc i < length words → T (le (range-lowest words) (float-at words i)) × T (le (float-at words i) (range-highest words))
+  pub between : (i : ℕ) → 1 ≤ i → suc i < length words → T (le (job-left (range-job words) .lowest) (float-at words i)) × T (le (float-at words i) (job-left (range-job words) .highest))
   between i l m =
       let (a, b, low) = lowest-attained in
       let (c, d, high) = highest-attained in
@@ -82,25 +84,19 @@ module _ (words : List ℕ) (h : T (accepted (range-returned words))) where
   pub word-exact : (i : ℕ) → 1 ≤ i → suc i < length words → HasValue (float-at words i) (negative (value-at words i)) (natAbs (value-at words i)) 8
   word-exact i l m = exact 3 (value-at words i) (lit≤ tt) (in-digits S i l m)
 
--- a refused call gives no float but plus zero
-pub refused-gives : (words : List ℕ) → accepted (range-returned words) ≡ false → (range-lowest words ≡ plus-zero) × (range-highest words ≡ plus-zero)
-unfolding range-lowest range-highest
-refused-gives words h =
-    (causes.refused-leaves (range-returned words) (lowest-float words) plus-zero h, causes.refused-leaves (range-returned words) (highest-float words) plus-zero h)
-
 -- the words that an accepted call of sheet wrote, in a list of their own: they are a coefficient sheet, and accepted
 
-module _ (words : List ℕ) (b : ℕ) (scratch : List ℤ) (output : List ℕ) (a : T (accepted (sheet-returned words b (length scratch) (length output))))
+module _ (K : Scratch) (words : List ℕ) (b : ℕ) (scratch : List ℤ) (output : List ℕ) (a : Accepts (sheet-job K words b scratch output))
     (written : List ℕ) (size : length written ≡ length words)
-    (same : (i : ℕ) → i < length words → word-at written i ≡ word-at (sheet-output words b scratch output) i) where
-  checked : Checked words b (length scratch) (length output)
-  checked = accepted-checked words b (length scratch) (length output) a
+    (same : (i : ℕ) → i < length words → word-at written i ≡ word-at (sheets.left K words b scratch output .output) i) where
+  checked : Checked K words b (length scratch) (length output)
+  checked = accepted-checked K words b scratch output a
 
   shape : RightShape sample-format words
   shape = checked .right .right-shape
 
   head : (kind (word-at written 0) ≡ coefficient-head-kind) × (across (word-at written 0) ≡ across (word-at words 0)) × (down (word-at written 0) ≡ down (word-at words 0))
-  head = rw (same 0 (shape .some-words)) (sheets.head-left words b scratch output a)
+  head = rw (same 0 (shape .some-words)) (sheets.head-left K words b scratch output a)
 
   same-blocks : blocks written ≡ blocks words
   same-blocks = ap₂ _*_ (head .1) (head .2)
@@ -109,13 +105,13 @@ module _ (words : List ℕ) (b : ℕ) (scratch : List ℤ) (output : List ℕ) (
   pub coefficient-written : (k p : ℕ) → k < blocks words → p < places
       → (kind (word-at written (1 + places * k + p)) ≡ coefficient-kind) × (value-at written (1 + places * k + p) ≡ getD (block-coefficients b words k) p (pos 0))
   coefficient-written k p h l =
-      rw (same (1 + places * k + p) (let r = block-words checked k h in omega arith)) (sheets.coefficient-left words b scratch output a k p h l)
+      rw (same (1 + places * k + p) (let r = block-words checked k h in omega arith)) (sheets.block-left K words b scratch output a k p h l)
 
   within-limit : (k p : ℕ) → k < blocks words → p < places → natAbs (getD (block-coefficients b words k) p (pos 0)) ≤ coefficient-limit
   unfolding block-coefficients
   within-limit k p h l = coefficient-size b (block-set 1 (block words k) (block-range checked k h)) (checked .at-width) p l
 
-  body : (i : ℕ) → 0 < i → suc i < length written → (kind (word-at written i) ≡ coefficient-kind) × (outside coefficient-format (value-at written i) ≡ false)
+  body : (i : ℕ) → 0 < i → suc i < length written → (kind (word-at written i) ≡ coefficient-kind) × (outside-format coefficient-format (value-at written i) ≡ false)
   body i h l =
       let k = (i - 1) / places in
       let p = (i - 1) % places in
@@ -126,12 +122,12 @@ module _ (words : List ℕ) (b : ℕ) (scratch : List ℤ) (output : List ℕ) (
       let z = value-at written i in
       let v : z ≡ getD (block-coefficients b words k) p (pos 0) = ap (value-at written) (sym here) ∙ holds in (
         ap (λ i. kind (word-at written i)) (sym here) ∙ of-kind,
-        outside-limit (coefficient-limit - 1) z ∙ le-ltb coefficient-limit (natAbs z) (rw v (within-limit k p room below)),
+        not-beyond coefficient-limit z (rw v (within-limit k p room below)),
       )
 
   end : word-at written (length written - 1) ≡ word-at words (length words - 1)
   end =
-      ap (λ n. word-at written (n - 1)) size ∙ same (length words - 1) (let h = shape .some-words in omega arith) ∙ sheets.end-left words b scratch output a
+      ap (λ n. word-at written (n - 1)) size ∙ same (length words - 1) (let h = shape .some-words in omega arith) ∙ sheets.end-left K words b scratch output a
 
   pub written-right : RightSheet coefficient-format written
   written-right = record {
@@ -149,5 +145,5 @@ module _ (words : List ℕ) (b : ℕ) (scratch : List ℤ) (output : List ℕ) (
     end-count = ap payload end ∙ checked .right .end-count ∙ sym same-blocks;
   }
 
-  pub written-accepted : range-returned written ≡ accept
+  pub written-accepted : job-returned (range-job written) ≡ accept
   written-accepted = accepts written written-right

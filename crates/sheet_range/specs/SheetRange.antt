@@ -1,18 +1,16 @@
--- What `sheet_range` returns (02, request 4), for any words.
-use mathlib.Core.Bool.{Bool, cond}
+-- The job `sheet_range` (02, request 4), for any words.
+use mathlib.Core.Bool.{Bool}
 use mathlib.Core.List.{List}
 use Prim.Native.Nat.{ℕ, _-_}
 use lib.Ieee.{Float}
 use lib.ListN.{length}
 use lib.Signed.{ltZ}
 use Rattle.integers.specs.Search.{foremost}
-use Rattle.answers.specs.Answer.{Returned, answered, accept, accepted}
+use Rattle.answers.specs.Answer.{accept}
+use Rattle.answers.specs.Job.{Job}
 use Rattle.floats.specs.Fraction.{coefficient-float, plus-zero}
+use Rattle.sheet_range.specs.declared.Range.{Range}
 use Rattle.sheet_checks.specs.Check.{coefficient-format, check-causes, value-at}
-
--- "A coefficient sheet is checked as 01 checks a sample sheet"
-unfoldable pub range-returned : List ℕ → Returned
-range-returned words = answered (check-causes coefficient-format words) accept
 
 -- the float of word i's coefficient
 abbrev pub float-at : List ℕ → ℕ → Float
@@ -42,10 +40,11 @@ lowest-float words = float-at words (lowest-word words 1 (length words - 1))
 abbrev pub highest-float : List ℕ → Float
 highest-float words = float-at words (highest-word words 1 (length words - 1))
 
--- and of a refused call "plus zero"
-
-unfoldable pub range-lowest : List ℕ → Float
-range-lowest words = cond (accepted (range-returned words)) (lowest-float words) plus-zero
-
-unfoldable pub range-highest : List ℕ → Float
-range-highest words = cond (accepted (range-returned words)) (highest-float words) plus-zero
+-- "A coefficient sheet is checked as 01 checks a sample sheet"; it gives both as one pair, and of a refused call "plus zero"
+abbrev pub range-job : List ℕ → Job Range
+range-job words = record {
+  causes = check-causes coefficient-format words;
+  end = accept;
+  result = record { lowest = lowest-float words; highest = highest-float words };
+  was = record { lowest = plus-zero; highest = plus-zero };
+}

@@ -7,6 +7,7 @@ ghost use Prim.Native.Nat.{_+_};
 ghost use lib.Ieee.{lt};
 ghost use Rattle.limits.specs.Limits.{places};
 ghost use Rattle.answers.specs.Answer.{returned};
+ghost use Rattle.answers.specs.Job.{job-left, job-returned};
 ghost use Rattle.sheet_checks.specs.Check.{coefficient-format};
 ghost use Rattle.sheet_checks.specs.Sheets.{RightSheet};
 ghost use Rattle.sheet_range.specs.Preconditions.{InBody};
@@ -82,9 +83,9 @@ fn range_of_sheet(words: &[u32]) -> Range
 
 // The lowest and the highest float of a coefficient sheet, or why it is refused; then both are plus zero.
 pub fn sheet_range(words: &[u32]) -> Ranged
-    ensures { λ r. ⌜ returned (r .answer) ≡ spec.range-returned (now (words .entry)) ⌝ }
-    ensures { λ r. ⌜ r .range .lowest ≡ spec.range-lowest (now (words .entry)) ⌝ }
-    ensures { λ r. ⌜ r .range .highest ≡ spec.range-highest (now (words .entry)) ⌝ }
+    ensures { λ r. ⌜ returned (r .answer) ≡ job-returned (spec.range-job (now (words .entry))) ⌝ }
+    ensures { λ r. ⌜ r .range ≡ job-left (spec.range-job (now (words .entry))) ⌝ }
+    ensures { λ r. ⌜ now (words .exit) ≡ now (words .entry) ⌝ }
 {
     let answer = check_sheet(COEFFICIENT_FORMAT, words);
     if number(answer) != 0 {

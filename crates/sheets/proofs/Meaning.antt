@@ -5,7 +5,7 @@ use mathlib.Core.Bool.{Bool, true, false, cond}
 use mathlib.Core.List.{List}
 use Prim.Native.Nat.{ℕ, _+_, _-_, _*_, _≤_, _<_}
 use native.Mathlib.Omega.{arith}
-use lib.Dec.{T, lit<}
+use lib.Dec.{T, lit<, lit≤}
 use lib.IntN.{ℤ, pos}
 use lib.ListN.{length, getD}
 use Rattle.integers.specs.Table.{table, over}
@@ -16,47 +16,67 @@ use Rattle.rounding_error.specs.Value.{Near}
 use Rattle.rounding_error.specs.Width.{distance}
 use Rattle.elements.specs.Buffer.{element-at}
 use Rattle.answers.specs.Answer.{accept-words, accepted}
-use Rattle.answers.proofs.Causes as causes
+use Rattle.answers.specs.Job.{Job, job-returned, job-left, Accepts}
+use Rattle.answers.proofs.Jobs.{accepted-leaves}
 use Rattle.element_sets.specs.Sets.{block-sum, elements-of}
 use Rattle.element_sets.proofs.Blocks.{block-set}
 use Rattle.rounding.specs.Rounding.{coefficients-of}
 use Rattle.rounding.proofs.Blocks.{first-coefficient}
-use Rattle.rounding.proofs.Causes.{all-near}
+use Rattle.rounding.proofs.Distance.{all-near}
 use Rattle.words.specs.Word.{across, coefficient-head-kind, coefficient-kind, down, kind, payload, value, word}
 use Rattle.words.proofs.Packing.{kind-word, payload-word, payload-below}
 use Rattle.sheet_checks.specs.Check.{word-at, value-at, blocks}
 use Rattle.sheet_checks.proofs.Sheets.{some-blocks}
 use Rattle.sheet_blocks.specs.Preconditions.{Checked}
-use Rattle.sheet_blocks.specs.Blocks.{block, block-coefficients, coefficient-sheet, coefficient-word, output-word}
+use Rattle.sheet_blocks.specs.Blocks.{Scratch, block-number, block, block-coefficients, coefficient-sheet, coefficient-word, output-word}
 use Rattle.sheet_blocks.specs.Sums.{firsts-total, samples-total, first-sum}
-use Rattle.sheets.specs.Sheet.{sheet-first-sum, sheet-output, sheet-returned, sheet-sample-sum, sheet-scratch}
-use Rattle.sheets.proofs.Causes.{accepted-checked, accepted-returns}
+use Rattle.sheets.specs.Sheet.{Left, sheet-job}
+use Rattle.sheets.proofs.Causes.{accepts, accepted-checked}
 use Rattle.sheet_blocks.proofs.Output.{output-head, output-body, output-end}
-use Rattle.sheet_blocks.proofs.Samples.{block-words, block-range, output-coefficient}
+use Rattle.sheet_blocks.proofs.Samples.{block-place, block-words, block-range, output-coefficient}
 use Rattle.sheet_blocks.proofs.Sums.{same-firsts, sums-equal}
+
+-- a call, with any scratch
+
+module _ (K : Scratch) (words : List ℕ) (b : ℕ) (scratch : List ℤ) (output : List ℕ) where
+  abbrev pub left : Left
+  left = job-left (sheet-job K words b scratch output)
+
+  -- "The two are equal on every accepted sheet": and so on every one, since beside a refusal both are 0
+  pub same-sums : left .totals .samples ≡ left .totals .firsts
+  unfolding job-left
+  same-sums = go (accepted (job-returned (sheet-job K words b scratch output))) (λ a. sums-equal (accepted-checked K words b scratch output a))
+    where
+      job : Job Left
+      job = sheet-job K words b scratch output
+
+      go : (t : Bool) → (T t → samples-total words ≡ firsts-total b words)
+          → cond t (job .result) (job .was) .totals .samples ≡ cond t (job .result) (job .was) .totals .firsts
+      go true same = same tt
+      go false same = refl
 
 -- an accepted call
 
-module _ (words : List ℕ) (b : ℕ) (scratch : List ℤ) (output : List ℕ) (a : T (accepted (sheet-returned words b (length scratch) (length output)))) where
-  checked : Checked words b (length scratch) (length output)
-  checked = accepted-checked words b (length scratch) (length output) a
+module _ (K : Scratch) (words : List ℕ) (b : ℕ) (scratch : List ℤ) (output : List ℕ) (a : Accepts (sheet-job K words b scratch output)) where
+  checked : Checked K words b (length scratch) (length output)
+  checked = accepted-checked K words b scratch output a
 
   -- "returns 0 and the words written", as many as the sheet has
-  pub returns-words : sheet-returned words b (length scratch) (length output) ≡ accept-words (length words)
-  returns-words = accepted-returns words b (length scratch) (length output) a
+  pub returns-words : job-returned (sheet-job K words b scratch output) ≡ accept-words (length words)
+  returns-words = accepts K words b scratch output (checked .at-width) (checked .right) (checked .scratch-size) (checked .output-size)
 
-  -- the scratch holds the last block's elements
-  pub last-elements : sheet-scratch words b scratch output ≡ elements-of 2 (block words (blocks words - 1))
-  unfolding sheet-scratch
-  last-elements =
-      causes.accepted-leaves (sheet-returned words b (length scratch) (length output)) (elements-of 2 (block words (blocks words - 1))) scratch a
+  is-left : job-left (sheet-job K words b scratch output) ≡ sheet-job K words b scratch output .result
+  is-left = accepted-leaves (sheet-job K words b scratch output) a
 
-  written-over : sheet-output words b scratch output ≡ over (coefficient-sheet b words) output
-  unfolding sheet-output
-  written-over = causes.accepted-leaves (sheet-returned words b (length scratch) (length output)) (over (coefficient-sheet b words) output) output a
+  -- the scratch holds what it has of the last block
+  pub last-block : left K words b scratch output .scratch ≡ K .holds (block words (blocks words - 1))
+  last-block = ap (λ (l : Left). l .scratch) is-left
+
+  written-over : left K words b scratch output .output ≡ over (coefficient-sheet b words) output
+  written-over = ap (λ (l : Left). l .output) is-left
 
   abbrev left-at : ℕ → ℕ
-  left-at = word-at (sheet-output words b scratch output)
+  left-at = word-at (left K words b scratch output .output)
 
   pub word-left : (i : ℕ) → i < length words → left-at i ≡ output-word b words i
   unfolding coefficient-sheet
@@ -74,39 +94,44 @@ module _ (words : List ℕ) (b : ℕ) (scratch : List ℤ) (output : List ℕ) (
       (rw e (kind-word coefficient-head-kind (payload head) (payload-below head)), rw (e, p), rw (e, p))
 
   -- coefficient p of block k has kind 3, and its value is the rounding at b of that block's element p
-  pub coefficient-left : (k p : ℕ) → k < blocks words → p < places
+  pub block-left : (k p : ℕ) → k < blocks words → p < places
       → (kind (left-at (1 + places * k + p)) ≡ coefficient-kind) × (value (payload (left-at (1 + places * k + p))) ≡ getD (block-coefficients b words k) p (pos 0))
-  coefficient-left k p h l =
+  block-left k p h l =
       let room = block-words checked k h in
       rw (word-left (1 + places * k + p) (omega arith)) (output-coefficient checked k h p l)
+
+  -- so that the block in row i of blocks, from the top, and column j, from the left, is the rounding of the block that was read there
+  pub coefficient-left : (i j p : ℕ) → i < down (word-at words 0) → j < across (word-at words 0) → p < places
+      → (kind (left-at (1 + places * block-number words i j + p)) ≡ coefficient-kind)
+      × (value (payload (left-at (1 + places * block-number words i j + p))) ≡ getD (block-coefficients b words (block-number words i j)) p (pos 0))
+  coefficient-left i j p h l m = block-left (block-number words i j) p (block-place words i j h l) m
 
   -- and that value lies as near to half of the element as demand 3 asks
   pub near-left : (k p : ℕ) → k < blocks words → p < places
       → Near halvings (value (payload (left-at (1 + places * k + p)))) (element-at (elements-of 2 (block words k)) p) (distance distance-numerator b)
   unfolding block-coefficients
   near-left k p h l =
-      rw (coefficient-left k p h l .1)
-      (all-near (elements-of 2 (block words k)) b (block-set 1 (block words k) (block-range checked k h)) (checked .at-width) .near p l)
+      rw (block-left k p h l .1)
+      (all-near 2 (elements-of 2 (block words k)) b (lit≤ tt) (block-set 1 (block words k) (block-range checked k h)) (checked .at-width) .near p l)
 
   -- the sums are those of the words that were read and of the words that are left
-  pub sums-left : (sheet-sample-sum words b (length scratch) (length output) ≡ samples-total words)
-      × (sheet-first-sum words b (length scratch) (length output) ≡ first-sum (sheet-output words b scratch output) (blocks words))
-  unfolding sheet-sample-sum sheet-first-sum coefficient-sheet
-  sums-left =
-      let answer = sheet-returned words b (length scratch) (length output) in (
-        causes.accepted-leaves answer (samples-total words) (pos 0) a,
-        causes.accepted-leaves answer (firsts-total b words) (pos 0) a
-            ∙ same-firsts (coefficient-sheet b words) (sheet-output words b scratch output) (blocks words) (λ j h.
-            let room = block-words checked j h in
-            getD-table (length words) (output-word b words) 0 (1 + places * j) (omega arith) ∙ sym (word-left (1 + places * j) (omega arith))),
-      )
+  pub sums-left : (left K words b scratch output .totals .samples ≡ samples-total words)
+      × (left K words b scratch output .totals .firsts ≡ first-sum (left K words b scratch output .output) (blocks words))
+  unfolding coefficient-sheet
+  sums-left = (
+    ap (λ (l : Left). l .totals .samples) is-left,
+    ap (λ (l : Left). l .totals .firsts) is-left
+        ∙ same-firsts (coefficient-sheet b words) (left K words b scratch output .output) (blocks words) (λ j h.
+        let room = block-words checked j h in
+        getD-table (length words) (output-word b words) 0 (1 + places * j) (omega arith) ∙ sym (word-left (1 + places * j) (omega arith))),
+  )
 
   -- the first coefficient of block k is the sum of its samples
-  pub first-left : (k : ℕ) → k < blocks words → value-at (sheet-output words b scratch output) (1 + places * k) ≡ block-sum (block words k)
+  pub first-left : (k : ℕ) → k < blocks words → value-at (left K words b scratch output .output) (1 + places * k) ≡ block-sum (block words k)
   unfolding block-coefficients
   first-left k h =
       let index : 1 + places * k + 0 ≡ 1 + places * k = omega arith in
-      rw index at (coefficient-left k 0 h (lit< tt) .1) ∙ first-coefficient b (block words k)
+      rw index at (block-left k 0 h (lit< tt) .1) ∙ first-coefficient b (block words k)
 
   -- the same end word
   pub end-left : left-at (length words - 1) ≡ word-at words (length words - 1)
@@ -120,32 +145,6 @@ module _ (words : List ℕ) (b : ℕ) (scratch : List ℤ) (output : List ℕ) (
   unfolding coefficient-sheet
   beyond-left i h = rw written-over (getD-beyond (table (length words) (output-word b words)) output 0 i (rw (length-table (length words) (output-word b words)) h))
 
--- "The two are equal on every accepted sheet": and so on every one, since beside a refusal both are 0
-
-pub refused-sums : (words : List ℕ) (b s o : ℕ) → accepted (sheet-returned words b s o) ≡ false → (sheet-sample-sum words b s o ≡ pos 0) × (sheet-first-sum words b s o ≡ pos 0)
-unfolding sheet-sample-sum sheet-first-sum
-refused-sums words b s o r =
-    let answer = sheet-returned words b s o in
-    (causes.refused-leaves answer (samples-total words) (pos 0) r, causes.refused-leaves answer (firsts-total b words) (pos 0) r)
-
-pub same-sums : (words : List ℕ) (b s o : ℕ) → sheet-sample-sum words b s o ≡ sheet-first-sum words b s o
-unfolding sheet-sample-sum sheet-first-sum
-same-sums words b s o = go (accepted (sheet-returned words b s o)) (λ a. sums-equal (accepted-checked words b s o a))
-  where
-    go : (t : Bool) → (T t → samples-total words ≡ firsts-total b words) → cond t (samples-total words) (pos 0) ≡ cond t (firsts-total b words) (pos 0)
-    go true same = same tt
-    go false same = refl
-
--- a refused call leaves both buffers as they were
-pub refused-leaves : (words : List ℕ) (b : ℕ) (scratch : List ℤ) (output : List ℕ) → accepted (sheet-returned words b (length scratch) (length output)) ≡ false
-    → (sheet-scratch words b scratch output ≡ scratch) × (sheet-output words b scratch output ≡ output)
-unfolding sheet-scratch sheet-output
-refused-leaves words b scratch output r =
-    let answer = sheet-returned words b (length scratch) (length output) in (
-      causes.refused-leaves answer (elements-of 2 (block words (blocks words - 1))) scratch r,
-      causes.refused-leaves answer (over (coefficient-sheet b words) output) output r,
-    )
-
 same-block : (v w : List ℕ) (k : ℕ) → ((i : ℕ) → i < places → word-at v (1 + places * k + i) ≡ word-at w (1 + places * k + i)) → block v k ≡ block w k
 unfolding block
 same-block v w k same =
@@ -153,18 +152,17 @@ same-block v w k same =
     (λ i l. ap (λ x. value (payload x)) (same i l))
 
 -- "Two accepted sheets of the same sizes that agree in one block, at equal b, agree in that block's 64 output words"
-pub block-independence : (b : ℕ) (v w : List ℕ) (s t : List ℤ) (o q : List ℕ)
-    → T (accepted (sheet-returned v b (length s) (length o))) → T (accepted (sheet-returned w b (length t) (length q)))
+pub block-independence : (K : Scratch) (b : ℕ) (v w : List ℕ) (s t : List ℤ) (o q : List ℕ) → Accepts (sheet-job K v b s o) → Accepts (sheet-job K w b t q)
     → across (word-at v 0) ≡ across (word-at w 0) → down (word-at v 0) ≡ down (word-at w 0)
     → (k : ℕ) → k < blocks v → ((i : ℕ) → i < places → word-at v (1 + places * k + i) ≡ word-at w (1 + places * k + i))
-    → (i : ℕ) → i < places → word-at (sheet-output v b s o) (1 + places * k + i) ≡ word-at (sheet-output w b t q) (1 + places * k + i)
+    → (i : ℕ) → i < places → word-at (left K v b s o .output) (1 + places * k + i) ≡ word-at (left K w b t q .output) (1 + places * k + i)
 unfolding block-coefficients
-block-independence b v w s t o q a c e f k h same i l =
-    let checked-v = accepted-checked v b (length s) (length o) a in
-    let checked-w = accepted-checked w b (length t) (length q) c in
+block-independence K b v w s t o q a c e f k h same i l =
+    let checked-v = accepted-checked K v b s o a in
+    let checked-w = accepted-checked K w b t q c in
     let sizes : blocks v ≡ blocks w = ap₂ _*_ e f in
     let room-v = block-words checked-v k h in
     let room-w = block-words checked-w k (rw sizes at h) in
-    word-left v b s o a (1 + places * k + i) (omega arith) ∙ output-body b v k i l room-v
+    word-left K v b s o a (1 + places * k + i) (omega arith) ∙ output-body b v k i l room-v
     ∙ ap (λ x. coefficient-word (coefficients-of 2 b (elements-of 2 x)) i) (same-block v w k same)
-    ∙ sym (word-left w b t q c (1 + places * k + i) (omega arith) ∙ output-body b w k i l room-w)
+    ∙ sym (word-left K w b t q c (1 + places * k + i) (omega arith) ∙ output-body b w k i l room-w)

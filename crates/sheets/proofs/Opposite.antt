@@ -1,18 +1,18 @@
 -- "A negative must mirror its positive" (02, request 3): what two calls leave, of a sample sheet and of the sheet with all samples negated.
 -- Assumes nothing.
 use mathlib.Core.Path.{_≡_, sym, ap, _∙_}
-use mathlib.Core.Bool.{not, true}
+use mathlib.Core.Bool.{false}
 use mathlib.Core.List.{List}
 use Prim.Native.Nat.{ℕ, suc, _+_, _-_, _*_, _/_, _%_, _≤_, _<_}
 use native.Mathlib.Omega.{arith}
-use lib.Dec.{T}
 use lib.IntN.{ℤ, pos, negℤ}
 use lib.ListN.{length, getD}
 use Rattle.integers.proofs.Tables.{getD-table}
-use Rattle.limits.specs.Limits.{places, components-size, sample-limit, in-range}
-use Rattle.limits.proofs.Range.{outside-range}
+use Rattle.integers.specs.Range.{outside}
+use Rattle.limits.specs.Limits.{places, lowest-sample, highest-sample}
 use Rattle.ring.proofs.Components.{component-negate}
-use Rattle.answers.specs.Answer.{accept-words, accepted}
+use Rattle.answers.specs.Answer.{accept-words}
+use Rattle.answers.specs.Job.{job-returned, Accepts}
 use Rattle.element_sets.specs.Sets.{elements-of}
 use Rattle.element_sets.proofs.Negated.{elements-negated}
 use Rattle.rounding.specs.Rounding.{coefficients-of}
@@ -21,20 +21,20 @@ use Rattle.words.specs.Word.{coefficient-head-kind, kind, payload, value, word}
 use Rattle.sheet_checks.specs.Check.{sample-format, word-at, blocks}
 use Rattle.sheet_checks.specs.Sheets.{RightSheet}
 use Rattle.sheet_blocks.specs.Preconditions.{Checked}
-use Rattle.sheet_blocks.specs.Blocks.{block, block-coefficients}
+use Rattle.sheet_blocks.specs.Blocks.{Scratch, block, block-coefficients}
 use Rattle.sheet_blocks.proofs.Output.{output-head}
 use Rattle.sheet_blocks.proofs.Samples.{block-words}
 use Rattle.sheets.specs.Opposite.{Opposite}
-use Rattle.sheets.specs.Sheet.{sheet-output, sheet-returned}
+use Rattle.sheets.specs.Sheet.{sheet-job}
 use Rattle.sheets.proofs.Causes.{accepts, accepted-checked}
-use Rattle.sheets.proofs.Meaning.{word-left, coefficient-left, end-left}
+use Rattle.sheets.proofs.Meaning.{left, word-left, block-left, end-left}
 
--- the second sheet is transformed at the same b, with a scratch of 512 and an output that has room; its samples too are in range
-module _ (v w : List ℕ) (b : ℕ) (s : List ℤ) (o : List ℕ) (a : T (accepted (sheet-returned v b (length s) (length o)))) (O : Opposite (length v) v w)
-    (size : length w ≡ length v) (range : (i : ℕ) → 0 < i → suc i < length v → in-range (value (payload (word-at w i))) ≡ true)
-    (t : List ℤ) (q : List ℕ) (scratch : length t ≡ components-size) (room : length w ≤ length q) where
-  checked : Checked v b (length s) (length o)
-  checked = accepted-checked v b (length s) (length o) a
+-- the second sheet is transformed at the same b, with as large a scratch and an output that has room; its samples too are in range
+module _ (K : Scratch) (v w : List ℕ) (b : ℕ) (s : List ℤ) (o : List ℕ) (a : Accepts (sheet-job K v b s o)) (O : Opposite (length v) v w)
+    (size : length w ≡ length v) (range : (i : ℕ) → 0 < i → suc i < length v → outside lowest-sample highest-sample (value (payload (word-at w i))) ≡ false)
+    (t : List ℤ) (q : List ℕ) (scratch : length t ≡ K .size) (room : length w ≤ length q) where
+  checked : Checked K v b (length s) (length o)
+  checked = accepted-checked K v b s o a
 
   right : RightSheet sample-format w
   right =
@@ -49,16 +49,16 @@ module _ (v w : List ℕ) (b : ℕ) (s : List ℤ) (o : List ℕ) (a : T (accept
           count = rw (O .same-head, size) (S .right-shape .count);
         };
         body-kind = λ i p l. O .same-kinds i p (rw size at l) ∙ S .body-kind i p (rw size at l);
-        body-range = λ i p l. outside-range (sample-limit - 1) (value (payload (word-at w i))) ∙ ap not (range i p (rw size at l));
+        body-range = λ i p l. range i p (rw size at l);
         end-kind = rw (size, O .same-end) (S .end-kind);
         end-count = rw (size, O .same-end, O .same-head) (S .end-count);
       }
 
   -- it is accepted
-  pub negative-accepted : sheet-returned w b (length t) (length q) ≡ accept-words (length w)
-  negative-accepted = accepts w b (length t) (length q) (checked .at-width) right scratch room
+  pub negative-accepted : job-returned (sheet-job K w b t q) ≡ accept-words (length w)
+  negative-accepted = accepts K w b t q (checked .at-width) right scratch room
 
-  taken : T (accepted (sheet-returned w b (length t) (length q)))
+  taken : Accepts (sheet-job K w b t q)
   taken = rw negative-accepted tt
 
   -- the coefficients of block k
@@ -84,28 +84,31 @@ module _ (v w : List ℕ) (b : ℕ) (s : List ℤ) (o : List ℕ) (a : T (accept
         ∙ component-negate (coefficients-of 2 b (elements-of 2 (block v k))) p
 
   -- and the two coefficient sheets are opposite
-  pub negative-left : Opposite (length v) (sheet-output v b s o) (sheet-output w b t q)
+  pub negative-left : Opposite (length v) (left K v b s o .output) (left K w b t q .output)
   negative-left =
       record {
         same-head = head w t q taken ∙ ap (λ h. word coefficient-head-kind (payload h)) (O .same-head) ∙ sym (head v s o a);
         same-kinds = λ i p l. place i p l .0;
         opposite-values = λ i p l. place i p l .1;
-        same-end = rw size at (end-left w b t q taken) ∙ O .same-end ∙ sym (end-left v b s o a);
+        same-end = ends w t q taken size ∙ O .same-end ∙ sym (end-left K v b s o a);
       }
     where
-      head : (x : List ℕ) (s : List ℤ) (o : List ℕ) (a : T (accepted (sheet-returned x b (length s) (length o))))
-          → word-at (sheet-output x b s o) 0 ≡ word coefficient-head-kind (payload (word-at x 0))
-      head x s o a = word-left x b s o a 0 (accepted-checked x b (length s) (length o) a .right .right-shape .some-words) ∙ output-head b x
+      head : (x : List ℕ) (s : List ℤ) (o : List ℕ) (a : Accepts (sheet-job K x b s o))
+          → word-at (left K x b s o .output) 0 ≡ word coefficient-head-kind (payload (word-at x 0))
+      head x s o a = word-left K x b s o a 0 (accepted-checked K x b s o a .right .right-shape .some-words) ∙ output-head b x
+
+      ends : (x : List ℕ) (s : List ℤ) (o : List ℕ) → Accepts (sheet-job K x b s o) → {n : ℕ} → length x ≡ n → word-at (left K x b s o .output) (n - 1) ≡ word-at x (n - 1)
+      ends x s o a e = rw (← e) (end-left K x b s o a)
 
       place : (i : ℕ) → 0 < i → suc i < length v
-          → (kind (word-at (sheet-output w b t q) i) ≡ kind (word-at (sheet-output v b s o) i))
-          × (value (payload (word-at (sheet-output w b t q) i)) ≡ negℤ (value (payload (word-at (sheet-output v b s o) i))))
+          → (kind (word-at (left K w b t q .output) i) ≡ kind (word-at (left K v b s o .output) i))
+          × (value (payload (word-at (left K w b t q .output) i)) ≡ negℤ (value (payload (word-at (left K v b s o .output) i))))
       place i p l =
           let k = (i - 1) / places in
           let r = (i - 1) % places in
           let index : 1 + places * k + r ≡ i = omega arith in
           let h : k < blocks v = omega (arith, checked .right .right-shape .count) in
           let m : r < places = omega arith in
-          let (kind-w, value-w) = rw index at (coefficient-left w b t q taken k r (same-blocks k h) m) in
-          let (kind-v, value-v) = rw index at (coefficient-left v b s o a k r h m) in
+          let (kind-w, value-w) = rw index at (block-left K w b t q taken k r (same-blocks k h) m) in
+          let (kind-v, value-v) = rw index at (block-left K v b s o a k r h m) in
           (kind-w ∙ sym kind-v, value-w ∙ coefficients k h r ∙ ap negℤ (sym value-v))

@@ -3,10 +3,12 @@
 // `sheet` takes any words, any b and any buffers. It looks at everything before it writes anything: an accepted call leaves the whole
 // coefficient sheet and gives both sums, a refused one leaves both buffers as they were and names the first cause.
 ghost use mathlib.Core.Path.{_≡_};
-ghost use lib.IntN.{pos};
 ghost use lib.ListN.{length};
-ghost use Rattle.answers.specs.Answer.{returned};
-ghost use Rattle.sheets.specs.Sheet.{sheet-first-sum, sheet-output, sheet-returned, sheet-sample-sum, sheet-scratch};
+ghost use Rattle.answers.specs.Answer.{accept-words, answered, returned};
+ghost use Rattle.answers.specs.Job.{job-left, job-returned};
+ghost use Rattle.sheet_blocks.specs.Blocks.{element-scratch};
+ghost use Rattle.sheet_blocks.specs.Sums.{no-totals};
+ghost use Rattle.sheets.specs.Sheet.{sheet-causes, sheet-job};
 use answers::Answer;
 use answers::number;
 use limits::COMPONENTS;
@@ -23,9 +25,9 @@ pub struct SheetAnswer {
     pub totals: Totals,
 }
 
-// The causes in their order, of the words, of b, and of the lengths of scratch and output.
-fn check(words: &[u32], b: u32, scratch: usize, output: usize) -> Answer
-    ensures { λ r. ⌜ returned r ≡ sheet-returned (now (words .entry)) b scratch output ⌝ }
+// The causes in their order, of the words, of b, and of the lengths of scratch and output; the scratch has to have `size` numbers.
+fn check(words: &[u32], b: u32, size: usize, scratch: usize, output: usize) -> Answer
+    ensures { λ r. ⌜ returned r ≡ answered (sheet-causes size (now (words .entry)) b scratch output) (accept-words (length (now (words .entry)))) ⌝ }
 {
     if !is_width(b) {
         return Answer::Width;
@@ -34,7 +36,7 @@ fn check(words: &[u32], b: u32, scratch: usize, output: usize) -> Answer
     if number(shape) != 0 {
         return shape;
     }
-    if scratch != COMPONENTS {
+    if scratch != size {
         return Answer::Lengths;
     }
     if output < words.len() {
@@ -46,8 +48,7 @@ fn check(words: &[u32], b: u32, scratch: usize, output: usize) -> Answer
 // A refusal, beside which both sums are 0.
 pub fn refused(answer: Answer) -> SheetAnswer
     ensures { λ r. ⌜ r .answer ≡ answer ⌝ }
-    ensures { λ r. ⌜ r .totals .samples ≡ pos 0 ⌝ }
-    ensures { λ r. ⌜ r .totals .firsts ≡ pos 0 ⌝ }
+    ensures { λ r. ⌜ r .totals ≡ no-totals ⌝ }
 {
     SheetAnswer {
         answer,
@@ -60,13 +61,13 @@ pub fn refused(answer: Answer) -> SheetAnswer
 
 // The coefficient sheet of a sample sheet at the width b and both sums, or why it is refused; then the sums are 0, and scratch and output as they were.
 pub fn sheet(words: &[u32], b: u32, scratch: &mut [i32], output: &mut [u32]) -> SheetAnswer
-    ensures { λ r. ⌜ returned (r .answer) ≡ sheet-returned (now (words .entry)) b (length (now (scratch .entry))) (length (now (output .entry))) ⌝ }
-    ensures { λ r. ⌜ r .totals .samples ≡ sheet-sample-sum (now (words .entry)) b (length (now (scratch .entry))) (length (now (output .entry))) ⌝ }
-    ensures { λ r. ⌜ r .totals .firsts ≡ sheet-first-sum (now (words .entry)) b (length (now (scratch .entry))) (length (now (output .entry))) ⌝ }
-    ensures { λ r. ⌜ now (scratch .exit) ≡ sheet-scratch (now (words .entry)) b (now (scratch .entry)) (now (output .entry)) ⌝ }
-    ensures { λ r. ⌜ now (output .exit) ≡ sheet-output (now (words .entry)) b (now (scratch .entry)) (now (output .entry)) ⌝ }
+    ensures { λ r. ⌜ returned (r .answer) ≡ job-returned (sheet-job element-scratch (now (words .entry)) b (now (scratch .entry)) (now (output .entry))) ⌝ }
+    ensures { λ r. ⌜ r .totals ≡ job-left (sheet-job element-scratch (now (words .entry)) b (now (scratch .entry)) (now (output .entry))) .totals ⌝ }
+    ensures { λ r. ⌜ now (scratch .exit) ≡ job-left (sheet-job element-scratch (now (words .entry)) b (now (scratch .entry)) (now (output .entry))) .scratch ⌝ }
+    ensures { λ r. ⌜ now (output .exit) ≡ job-left (sheet-job element-scratch (now (words .entry)) b (now (scratch .entry)) (now (output .entry))) .output ⌝ }
+    ensures { λ r. ⌜ now (words .exit) ≡ now (words .entry) ⌝ }
 {
-    let answer = check(words, b, scratch.len(), output.len());
+    let answer = check(words, b, COMPONENTS, scratch.len(), output.len());
     if number(answer) != 0 {
         return refused(answer);
     }

@@ -36,6 +36,7 @@ pub fn convert(input: &[u8], output: &mut [u8; LINE_LIMIT]) -> usize
     ensures { λ r. ⌜ r ≡ length (sum-bytes (take input-limit (now (input .entry)))) ⌝ }
     ensures { λ r. ⌜ now (output .exit) ≡ over (sum-bytes (take input-limit (now (input .entry)))) (now (output .entry)) ⌝ }
     ensures { λ r. ⌜ Counts r (now (output .exit)) ⌝ }
+    ensures { λ r. ⌜ now (input .exit) ≡ now (input .entry) ⌝ }
 {
     let mut made = [0u32; WORDS_LIMIT];
     let answered = transform_input(input, &mut made);

@@ -15,8 +15,8 @@ use Rattle.ring.proofs.Linear.{scale-one}
 use Rattle.ring.proofs.Magnitude.{component-le}
 use Rattle.limits.specs.Limits.{sample-limit, components-size}
 use Rattle.dct.specs.Rows.{source, sign, conjugate-row}
-use Rattle.dct.specs.Transform.{element, step}
-use Rattle.dct.proofs.Factors.{step-cong}
+use Rattle.dct.specs.Transform.{factor, element, step}
+use Rattle.dct.proofs.Factors.{eight-factor, step-cong}
 use Rattle.dct.proofs.Bound.{bound}
 use Rattle.dct.proofs.Conjugates.{source-below, conjugate-step, conjugate-integers}
 use Rattle.dct.proofs.Dimensions.{first-dimension, element-double-sum, columns-then-rows}
@@ -28,7 +28,7 @@ use Rattle.element_rows.specs.Room.{Small, Room}
 use Rattle.element_rows.proofs.Rooms.{eights, small-le, small-integer, row-room}
 use Rattle.integer_step.proofs.Halves.{small-step}
 use Rattle.element_steps.specs.Class.{Counts}
-use Rattle.element_sets.specs.Sets.{sample, AllInRange, elements-of, frequencies}
+use Rattle.element_sets.specs.Sets.{sample, AllInRange, elements-by, elements-of, frequencies}
 use Rattle.element_sets.proofs.Blocks.{column, eight-frequencies, samples-small}
 use Rattle.transform.specs.Rows.{Columns}
 
@@ -39,7 +39,7 @@ module _ {x : List ℤ} (range : AllInRange 2 x) where
 
   frequencies-small : (j u : ℕ) → j < 8 → u < 8 → magnitudes (frequencies x j u) ≤ sample-limit * 8
   frequencies-small j u h k =
-      rw (first-dimension (column x j) u k) at (bound 0 sample-limit (column x j) (λ i l. samples-small range (8 * i + j) (omega arith)) u)
+      rw (first-dimension eight-factor (column x j) u k) at (bound 0 sample-limit (column x j) (λ i l. samples-small range (8 * i + j) (omega arith)) u)
 
   small-frequencies : (j u : ℕ) → j < 8 → u < 8 → Small (bit-limit 23) (frequencies x j u)
   small-frequencies j u h k = record {
@@ -49,7 +49,7 @@ module _ {x : List ℤ} (range : AllInRange 2 x) where
 
 pub stepped-column : (x : List ℤ) {c e : List Element} (j : ℕ) → Row 8 (λ i. integer (column x j i)) c → Row 8 (step (λ n. part (item c n) 0)) e → Row 8 (frequencies x j) e
 stepped-column x {c} j C E = record {
-  at = λ u h. E .at u h ∙ step-cong (λ n. part (item c n) 0) (λ i. integer (column x j i)) u (λ i l. ap (λ a. part a 0) (C .at i l));
+  at = λ u h. E .at u h ∙ step-cong factor (λ n. part (item c n) 0) (λ i. integer (column x j i)) u (λ i l. ap (λ a. part a 0) (C .at i l));
 }
 
 -- e is row u of the block's elements: the step over what stands at place u of every column
@@ -79,11 +79,11 @@ module _ {x : List (List Element)} (X : Columns x) where
     room-across = row-room L (λ j k. small-at j u k h)
 
     -- only the components of its frequency count
-    pub counts-across : (m : ℕ) (k : ℕ → ℕ) → T (spans k (suc m) u) → Counts (suc m) k l
-    counts-across m k t = record { counts = λ j b. rw (L .at j b, at j u b h) (restricted-step k m (column (X .block) j) u t) }
+    pub counts-across : (m : ℕ) (k : ℕ → ℕ) → T (spans factor k (suc m) u) → Counts (suc m) k l
+    counts-across m k t = record { counts = λ j b. rw (L .at j b, at j u b h) (restricted-step eight-factor k m (column (X .block) j) u t) }
 
     pub stepped-across : {e : List Element} → Row 8 (step (item l)) e → RowOf x u e
-    stepped-across E = record { at = λ v k. E .at v k ∙ step-cong (item l) (λ j. item (row x j) u) v (λ j b. L .at j b) }
+    stepped-across E = record { at = λ v k. E .at v k ∙ step-cong factor (item l) (λ j. item (row x j) u) v (λ j b. L .at j b) }
 
   pub room-stepped : (u : ℕ) → u < 8 → {e : List Element} → RowOf x u e → Room 8 headroom e
   room-stepped u h E = row-room E (λ v k. small-le (lit≤ tt) (small-step (λ j. item (row x j) u) v (λ j b. small-at j u b h)))
@@ -103,7 +103,7 @@ module _ {x : List (List Element)} (X : Columns x) where
       at = λ v b.
           R .at v b ∙ ap (λ a. scale (sign v) (conjugate a)) (E .at (source v) (source-below v b))
           ∙ conjugate-step (λ j. item (row x j) (source w)) (λ j c. eights (small-at j (source w) c k)) v b
-          ∙ step-cong (λ j. conjugate (item (row x j) (source w))) (λ j. item (row x j) w) v conjugate-at;
+          ∙ step-cong factor (λ j. conjugate (item (row x j) (source w))) (λ j. item (row x j) w) v conjugate-at;
     }
 
 -- columns, then rows
@@ -111,11 +111,11 @@ module _ {x : List (List Element)} (X : Columns x) where
 module _ (x : List ℤ) {s : List (List Element)} (S : Rows (frequencies x) s) where
   exact : (u v : ℕ) → u < 8 → v < 8 → step (λ j. item (row s j) u) v ≡ element 2 (sample x) (8 * u + v)
   exact u v h k =
-      step-cong (λ j. item (row s j) u) (λ j. frequencies x j u) v (λ j l. S .at j l .at u h)
-      ∙ sym (columns-then-rows (λ i j. sample x (8 * i + j)) u v) ∙ sym (element-double-sum (sample x) u v h k)
+      step-cong factor (λ j. item (row s j) u) (λ j. frequencies x j u) v (λ j l. S .at j l .at u h)
+      ∙ sym (columns-then-rows eight-factor (λ i j. sample x (8 * i + j)) u v) ∙ sym (element-double-sum eight-factor (sample x) u v h k)
 
   pub stored-elements : table components-size (component-of s) ≡ elements-of 2 x
-  unfolding elements-of
+  unfolding elements-by
   stored-elements = table-ext components-size _ _ same
     where
       same : (i : ℕ) → i < 512 → component-of s i ≡ component (element 2 (sample x) (i / 8)) (i % 8)

@@ -1,24 +1,23 @@
--- What the forward job of d dimensions returns and leaves (01, "Elements" and "Why a set or sheet is turned back"), for any buffers.
-use mathlib.Core.Bool.{not, _&&_}
+-- The forward job of d dimensions (01, "Elements" and "Why a set or sheet is turned back"), for any buffers.
 use mathlib.Core.List.{List, [], _∷_}
 use Prim.Native.Nat.{ℕ}
-use lib.Dec.{eqb}
 use lib.IntN.{ℤ}
 use lib.ListN.{length}
-use Rattle.limits.specs.Limits.{places-in, components-in, in-range}
-use Rattle.answers.specs.Answer.{Returned, Cause, unless, lowest, answered, accept, written}
-use Rattle.element_sets.specs.Sets.{sample, elements-of}
+use Rattle.integers.specs.Range.{outside-at}
+use Rattle.limits.specs.Limits.{places-in, components-in, lowest-sample, highest-sample}
+use Rattle.answers.specs.Answer.{Cause, sized, lowest, accept}
+use Rattle.answers.specs.Job.{Job}
+use Rattle.element_sets.specs.Sets.{elements-of}
 
--- causes 1 and 2, in this order
-abbrev pub forward-causes : ℕ → List ℤ → List ℤ → List Cause
-forward-causes d samples elements =
-    unless (eqb (length samples) (places-in d) && eqb (length elements) (components-in d)) 1
-    ∷ lowest (places-in d) (λ i. not (in-range (sample samples i))) 2
+-- causes 1 and 2, in this order, for a buffer of n numbers of elements
+abbrev pub forward-causes : ℕ → List ℤ → ℕ → List Cause
+forward-causes d samples n =
+    sized (length samples) (places-in d)
+    ∷ sized n (components-in d)
+    ∷ lowest (places-in d) (outside-at lowest-sample highest-sample samples) 2
     ∷ []
 
-unfoldable pub forward-returned : ℕ → List ℤ → List ℤ → Returned
-forward-returned d samples elements = answered (forward-causes d samples elements) accept
-
--- the elements after the call
-unfoldable pub forward-elements : ℕ → List ℤ → List ℤ → List ℤ
-forward-elements d samples elements = written (forward-returned d samples elements) (elements-of d samples) elements
+-- it leaves the block's exact elements
+abbrev pub forward-job : ℕ → List ℤ → List ℤ → Job (List ℤ)
+forward-job d samples elements =
+    record { causes = forward-causes d samples (length elements); end = accept; result = elements-of d samples; was = elements }

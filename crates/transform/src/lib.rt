@@ -8,20 +8,20 @@
 //
 // 32 bits suffice: a step adds at most four bits to what its elements need (`small-step`), so that samples, whose magnitudes need 16, need 24 after two.
 ghost use mathlib.Core.Path.{_≡_};
-ghost use mathlib.Core.Bool.{not};
 ghost use Prim.Native.Nat.{_%_, _*_, _+_, _/_, _<_};
 ghost use lib.ListN.{length};
-ghost use Rattle.integers.specs.Search.{any, first};
 ghost use Rattle.integers.specs.Table.{table};
 ghost use Rattle.ring.specs.Element as ring;
-ghost use Rattle.limits.specs.Limits.{components-size, in-range, places};
+ghost use Rattle.limits.specs.Limits.{components-size, places};
 ghost use Rattle.dct.specs.Transform as dct;
-ghost use Rattle.answers.specs.Answer.{returned};
+ghost use Rattle.answers.specs.Answer.{accept, answered, returned};
+ghost use Rattle.answers.specs.Job.{job-left, job-returned};
 ghost use Rattle.elements.specs.Buffer.{Row, Rows, item, row};
 ghost use Rattle.element_sets.specs.Sets.{AllInRange, elements-of, frequencies, sample};
-ghost use Rattle.transform.specs.Forward.{forward-elements, forward-returned};
+ghost use Rattle.transform.specs.Forward.{forward-causes, forward-job};
 ghost use Rattle.transform.specs.Rows.{Columns, RowStored};
 use answers::Answer;
+use answers::number;
 use element_rows::across;
 use element_steps::conjugate_row;
 use element_steps::fours_step;
@@ -31,6 +31,8 @@ use elements::Element;
 use elements::only;
 use elements::put;
 use integer_step::integer_step;
+use integers::any_outside;
+use integers::first_outside;
 use limits::COMPONENTS;
 use limits::HIGHEST_SAMPLE;
 use limits::LOWEST_SAMPLE;
@@ -114,56 +116,32 @@ pub fn transform(samples: &[i32], elements: &mut [i32])
     rows(columns(samples), elements);
 }
 
-// Whether a sample is out of range.
-fn outside(x: i32) -> bool
-    ensures { λ r. ⌜ r ≡ not (in-range x) ⌝ }
-{
-    integers::outside(x, LOWEST_SAMPLE, HIGHEST_SAMPLE)
-}
-
-// Whether any sample is out of range. The loop has no early exit, so that the compiler takes several samples at a time.
-fn any_outside(samples: &[i32]) -> bool
-    requires { ⌜ length (now samples) ≡ places ⌝ }
-    ensures { λ r. ⌜ r ≡ any places (λ i. not (in-range (sample (now (samples .entry)) i))) ⌝ }
-{
-    let mut r = false;
-    let mut i = 0;
-    while i < PLACES {
-        r = r | outside(samples[i]);
-        i += 1;
-    }
-    r
-}
-
-// The lowest index of a sample that is out of range, and 64 where there is none.
-fn first_outside(samples: &[i32]) -> usize
-    requires { ⌜ length (now samples) ≡ places ⌝ }
-    ensures { λ r. ⌜ r ≡ first places (λ i. not (in-range (sample (now (samples .entry)) i))) ⌝ }
-{
-    let mut i = 0;
-    while i < PLACES {
-        if outside(samples[i]) {
-            return i;
-        }
-        i += 1;
-    }
-    i
-}
-
-// The exact elements of a block of 64 samples, or the reason why there are none; then `elements` is as it was.
-pub fn forward(samples: &[i32], elements: &mut [i32]) -> Answer
-    ensures { λ r. ⌜ returned r ≡ forward-returned 2 (now (samples .entry)) (now (elements .entry)) ⌝ }
-    ensures { λ r. ⌜ now (elements .exit) ≡ forward-elements 2 (now (samples .entry)) (now (elements .entry)) ⌝ }
+// Why a block is refused, with room for this many numbers of elements.
+fn check(samples: &[i32], room: usize) -> Answer
+    ensures { λ r. ⌜ returned r ≡ answered (forward-causes 2 (now (samples .entry)) room) accept ⌝ }
 {
     if samples.len() != PLACES {
         return Answer::Lengths;
     }
-    if elements.len() != COMPONENTS {
+    if room != COMPONENTS {
         return Answer::Lengths;
     }
-    if any_outside(samples) {
-        return Answer::Sample(first_outside(samples));
+    if any_outside(samples, PLACES, LOWEST_SAMPLE, HIGHEST_SAMPLE) {
+        return Answer::Sample(first_outside(samples, PLACES, LOWEST_SAMPLE, HIGHEST_SAMPLE));
+    }
+    Answer::Accepted(0)
+}
+
+// The exact elements of a block of 64 samples, or the reason why there are none; then `elements` is as it was.
+pub fn forward(samples: &[i32], elements: &mut [i32]) -> Answer
+    ensures { λ r. ⌜ returned r ≡ job-returned (forward-job 2 (now (samples .entry)) (now (elements .entry))) ⌝ }
+    ensures { λ r. ⌜ now (elements .exit) ≡ job-left (forward-job 2 (now (samples .entry)) (now (elements .entry))) ⌝ }
+    ensures { λ r. ⌜ now (samples .exit) ≡ now (samples .entry) ⌝ }
+{
+    let answer = check(samples, elements.len());
+    if number(answer) != 0 {
+        return answer;
     }
     transform(samples, elements);
-    Answer::Accepted(0)
+    answer
 }

@@ -9,11 +9,12 @@ use Rattle.integers.specs.Table.{over}
 use Rattle.integers.proofs.Overwriting.{length-over, take-over}
 use Rattle.integers.proofs.Tables.{length-table}
 use Rattle.answers.specs.Answer.{Returned}
-use Rattle.answers.proofs.Causes.{accepted-leaves}
+use Rattle.answers.proofs.Causes.{accepted-number}
+use Rattle.answers.proofs.Jobs.{accepted-leaves}
 use Rattle.sheet_checks.specs.Check.{word-at}
 use Rattle.sheet_blocks.specs.Blocks.{output-word, coefficient-sheet}
-use Rattle.sheet_bytes.specs.Program.{by-input, input-returned, program-width, words-limit, words-of}
-use Rattle.sheet_bytes.proofs.Programs.{accepted-bytes, accepted-input, accepted-words}
+use Rattle.sheet_bytes.specs.Program.{by-input, input-job, input-returned, program-width, words-limit, words-of}
+use Rattle.sheet_bytes.proofs.Programs.{accepted-bytes, accepted-words}
 use Rattle.transform_bytes.specs.Output.{byte-of, bytes-of, output-bytes}
 
 -- the bytes of some words are four for each
@@ -36,14 +37,14 @@ pub record Written (bytes left : List ℕ) (p : ℕ) : Type 0 where
 pub written : {a : Returned} (bytes : List ℕ) → a ≡ input-returned bytes → {n : ℕ} → n ≡ a .number → {p : ℕ} → p ≡ a .place → n ≡ 0
     → (l left : List ℕ) → length l ≡ words-limit → left ≡ by-input (λ words. over (coefficient-sheet program-width words) l) l bytes → Written bytes left p
 unfolding output-bytes coefficient-sheet
-written bytes e f {p} g z l left size k =
+written {a} bytes e f {p} g z l left size k =
     let words = words-of bytes in
     let sheet = coefficient-sheet program-width words in
-    let t = accepted-input bytes e f z in
+    let t = rw e at (accepted-number a f z) in
     let (answer, room) = accepted-words bytes t in
     let long : length sheet ≡ length words = length-table (length words) (output-word program-width words) in
     let place = g ∙ ap (λ r. r .place) (e ∙ answer) in
-    let whole : left ≡ over sheet l = k ∙ accepted-leaves (input-returned bytes) (over sheet l) l t in
+    let whole : left ≡ over sheet l = k ∙ accepted-leaves (input-job (λ words. over (coefficient-sheet program-width words) l) l bytes) t in
     let start : take p left ≡ sheet = rw (place, whole) (take-over sheet l (length words) long) in
     record {
       room = omega arith;

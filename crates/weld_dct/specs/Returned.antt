@@ -10,4 +10,4 @@ number-and-place r = record { number = r .number; place = r .place }
 
 -- and of a summary what stands beside them
 abbrev pub summary-record : SummaryReturned → Summarized
-summary-record r = record { answer = number-and-place (r .returned); textured = r .textured; mean = r .mean; largest = r .largest }
+summary-record r = record { answer = number-and-place (r .returned); given = record { textured = r .textured; mean = r .mean; largest = r .largest } }

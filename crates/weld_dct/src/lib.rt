@@ -2,22 +2,23 @@
 // with the papers' number and place of the answer.
 //
 // Of every function here: it takes any numbers and buffers of any length, and returns. Its contract has no `requires`, and says for every input what
-// it returns and what every buffer that it may write holds afterwards: the whole result, or one refusal with its place, and then each buffer is
-// as it was, both sums that are returned 0 and every float plus zero. It keeps nothing between calls. What a caller in another language has to see
-// to, because no function can look at it, the header says.
+// it returns and what every buffer holds afterwards: the whole result, or one refusal with its place, and then each buffer is as it was, both sums that
+// are returned 0 and every float plus zero. A buffer that is lent to be read is as it was. It keeps nothing between calls. What a caller in another
+// language has to see to, because no function can look at it, the header says.
 ghost use mathlib.Core.Path.{_≡_};
 ghost use lib.Dec.{T};
-ghost use lib.ListN.{length};
 ghost use Rattle.answers.specs.Answer.{accepted, returned};
-ghost use Rattle.block_floats.specs.Summary.{summarized, summary-given};
-ghost use Rattle.block_floats.specs.ToFloats.{to-floats-floats, to-floats-returned};
-ghost use Rattle.inverse.specs.Back.{back-returned, back-samples};
-ghost use Rattle.quantization.specs.Quantization.{dequantize-coefficients, dequantize-returned, quantize-returned, quantize-values};
-ghost use Rattle.reorientation.specs.Reorient.{compose-returned, reorient-output, reorient-returned};
-ghost use Rattle.rounding.specs.Rounding.{AllNear, round-coefficients, round-returned};
-ghost use Rattle.sheet_range.specs.SheetRange.{range-highest, range-lowest, range-returned};
-ghost use Rattle.sheets.specs.Sheet.{sheet-first-sum, sheet-output, sheet-returned, sheet-sample-sum, sheet-scratch};
-ghost use Rattle.transform.specs.Forward.{forward-elements, forward-returned};
+ghost use Rattle.answers.specs.Job.{job-left, job-returned};
+ghost use Rattle.block_floats.specs.Summary.{summarized, summary-job};
+ghost use Rattle.block_floats.specs.ToFloats.{to-floats-job};
+ghost use Rattle.inverse.specs.Back.{back-job};
+ghost use Rattle.quantization.specs.Quantization.{dequantize-job, quantize-job};
+ghost use Rattle.reorientation.specs.Reorient.{compose-job, reorient-job};
+ghost use Rattle.rounding.specs.Rounding.{AllNear, round-job};
+ghost use Rattle.sheet_blocks.specs.Blocks.{element-scratch};
+ghost use Rattle.sheet_range.specs.SheetRange.{range-job};
+ghost use Rattle.sheets.specs.Sheet.{sheet-job};
+ghost use Rattle.transform.specs.Forward.{forward-job};
 ghost use Rattle.weld_dct.specs.Returned.{number-and-place, summary-record};
 use answers::Answer;
 use answers::number;
@@ -45,8 +46,9 @@ fn told(a: Answer) -> Returned
 // The exact elements of a block.
 #[no_mangle]
 pub extern "C" fn weld_dct_forward(samples: &[i32], elements: &mut [i32]) -> Returned
-    ensures { λ r. ⌜ number-and-place r ≡ forward-returned 2 (now (samples .entry)) (now (elements .entry)) ⌝ }
-    ensures { λ r. ⌜ now (elements .exit) ≡ forward-elements 2 (now (samples .entry)) (now (elements .entry)) ⌝ }
+    ensures { λ r. ⌜ number-and-place r ≡ job-returned (forward-job 2 (now (samples .entry)) (now (elements .entry))) ⌝ }
+    ensures { λ r. ⌜ now (elements .exit) ≡ job-left (forward-job 2 (now (samples .entry)) (now (elements .entry))) ⌝ }
+    ensures { λ r. ⌜ now (samples .exit) ≡ now (samples .entry) ⌝ }
 {
     told(transform::forward(samples, elements))
 }
@@ -54,8 +56,9 @@ pub extern "C" fn weld_dct_forward(samples: &[i32], elements: &mut [i32]) -> Ret
 // The block that has these elements.
 #[no_mangle]
 pub extern "C" fn weld_dct_back(elements: &[i32], samples: &mut [i32]) -> Returned
-    ensures { λ r. ⌜ number-and-place r ≡ back-returned 2 (now (elements .entry)) (now (samples .entry)) ⌝ }
-    ensures { λ r. ⌜ now (samples .exit) ≡ back-samples 2 (now (elements .entry)) (now (samples .entry)) ⌝ }
+    ensures { λ r. ⌜ number-and-place r ≡ job-returned (back-job 2 (now (elements .entry)) (now (samples .entry))) ⌝ }
+    ensures { λ r. ⌜ now (samples .exit) ≡ job-left (back-job 2 (now (elements .entry)) (now (samples .entry))) ⌝ }
+    ensures { λ r. ⌜ now (elements .exit) ≡ now (elements .entry) ⌝ }
 {
     told(inverse::back(elements, samples))
 }
@@ -63,9 +66,10 @@ pub extern "C" fn weld_dct_back(elements: &[i32], samples: &mut [i32]) -> Return
 // The coefficients of 64 elements at the width b.
 #[no_mangle]
 pub extern "C" fn weld_dct_round(elements: &[i32], b: u32, coefficients: &mut [i32]) -> Returned
-    ensures { λ r. ⌜ number-and-place r ≡ round-returned 2 (now (elements .entry)) b (now (coefficients .entry)) ⌝ }
-    ensures { λ r. ⌜ now (coefficients .exit) ≡ round-coefficients 2 (now (elements .entry)) b (now (coefficients .entry)) ⌝ }
+    ensures { λ r. ⌜ number-and-place r ≡ job-returned (round-job 2 (now (elements .entry)) b (now (coefficients .entry))) ⌝ }
+    ensures { λ r. ⌜ now (coefficients .exit) ≡ job-left (round-job 2 (now (elements .entry)) b (now (coefficients .entry))) ⌝ }
     ensures { λ r. ⌜ (T (accepted (number-and-place r)) → AllNear 2 (now (elements .entry)) b (now (coefficients .exit))) ⌝ }
+    ensures { λ r. ⌜ now (elements .exit) ≡ now (elements .entry) ⌝ }
 {
     told(rounding::round(elements, b, coefficients))
 }
@@ -86,11 +90,12 @@ pub extern "C" fn weld_dct_sheet(
     scratch: &mut [i32],
     output: &mut [u32],
 ) -> SheetReturned
-    ensures { λ r. ⌜ number-and-place (r .returned) ≡ sheet-returned (now (words .entry)) b (length (now (scratch .entry))) (length (now (output .entry))) ⌝ }
-    ensures { λ r. ⌜ r .samples ≡ sheet-sample-sum (now (words .entry)) b (length (now (scratch .entry))) (length (now (output .entry))) ⌝ }
-    ensures { λ r. ⌜ r .firsts ≡ sheet-first-sum (now (words .entry)) b (length (now (scratch .entry))) (length (now (output .entry))) ⌝ }
-    ensures { λ r. ⌜ now (scratch .exit) ≡ sheet-scratch (now (words .entry)) b (now (scratch .entry)) (now (output .entry)) ⌝ }
-    ensures { λ r. ⌜ now (output .exit) ≡ sheet-output (now (words .entry)) b (now (scratch .entry)) (now (output .entry)) ⌝ }
+    ensures { λ r. ⌜ number-and-place (r .returned) ≡ job-returned (sheet-job element-scratch (now (words .entry)) b (now (scratch .entry)) (now (output .entry))) ⌝ }
+    ensures { λ r. ⌜ r .samples ≡ job-left (sheet-job element-scratch (now (words .entry)) b (now (scratch .entry)) (now (output .entry))) .totals .samples ⌝ }
+    ensures { λ r. ⌜ r .firsts ≡ job-left (sheet-job element-scratch (now (words .entry)) b (now (scratch .entry)) (now (output .entry))) .totals .firsts ⌝ }
+    ensures { λ r. ⌜ now (scratch .exit) ≡ job-left (sheet-job element-scratch (now (words .entry)) b (now (scratch .entry)) (now (output .entry))) .scratch ⌝ }
+    ensures { λ r. ⌜ now (output .exit) ≡ job-left (sheet-job element-scratch (now (words .entry)) b (now (scratch .entry)) (now (output .entry))) .output ⌝ }
+    ensures { λ r. ⌜ now (words .exit) ≡ now (words .entry) ⌝ }
 {
     let answered = sheets::sheet(words, b, scratch, output);
     let answer = answered.answer;
@@ -108,8 +113,9 @@ pub extern "C" fn weld_dct_reorient(
     orientation: u32,
     output: &mut [i32],
 ) -> Returned
-    ensures { λ r. ⌜ number-and-place r ≡ reorient-returned (now (elements .entry)) orientation (now (output .entry)) ⌝ }
-    ensures { λ r. ⌜ now (output .exit) ≡ reorient-output (now (elements .entry)) orientation (now (output .entry)) ⌝ }
+    ensures { λ r. ⌜ number-and-place r ≡ job-returned (reorient-job (now (elements .entry)) orientation (now (output .entry))) ⌝ }
+    ensures { λ r. ⌜ now (output .exit) ≡ job-left (reorient-job (now (elements .entry)) orientation (now (output .entry))) ⌝ }
+    ensures { λ r. ⌜ now (elements .exit) ≡ now (elements .entry) ⌝ }
 {
     told(reorientation::reorient(elements, orientation, output))
 }
@@ -117,7 +123,7 @@ pub extern "C" fn weld_dct_reorient(
 // The orientation that two, one after the other, are.
 #[no_mangle]
 pub extern "C" fn weld_dct_compose_orientations(first: u32, second: u32) -> Returned
-    ensures { λ r. ⌜ number-and-place r ≡ compose-returned first second ⌝ }
+    ensures { λ r. ⌜ number-and-place r ≡ job-returned (compose-job first second) ⌝ }
 {
     told(reorientation::compose_orientations(first, second))
 }
@@ -129,8 +135,10 @@ pub extern "C" fn weld_dct_quantize(
     steps: &[u32],
     quantized: &mut [i32],
 ) -> Returned
-    ensures { λ r. ⌜ number-and-place r ≡ quantize-returned (now (coefficients .entry)) (now (steps .entry)) (now (quantized .entry)) ⌝ }
-    ensures { λ r. ⌜ now (quantized .exit) ≡ quantize-values (now (coefficients .entry)) (now (steps .entry)) (now (quantized .entry)) ⌝ }
+    ensures { λ r. ⌜ number-and-place r ≡ job-returned (quantize-job (now (coefficients .entry)) (now (steps .entry)) (now (quantized .entry))) ⌝ }
+    ensures { λ r. ⌜ now (quantized .exit) ≡ job-left (quantize-job (now (coefficients .entry)) (now (steps .entry)) (now (quantized .entry))) ⌝ }
+    ensures { λ r. ⌜ now (coefficients .exit) ≡ now (coefficients .entry) ⌝ }
+    ensures { λ r. ⌜ now (steps .exit) ≡ now (steps .entry) ⌝ }
 {
     told(quantization::quantize(coefficients, steps, quantized))
 }
@@ -142,8 +150,10 @@ pub extern "C" fn weld_dct_dequantize(
     steps: &[u32],
     coefficients: &mut [i32],
 ) -> Returned
-    ensures { λ r. ⌜ number-and-place r ≡ dequantize-returned (now (quantized .entry)) (now (steps .entry)) (now (coefficients .entry)) ⌝ }
-    ensures { λ r. ⌜ now (coefficients .exit) ≡ dequantize-coefficients (now (quantized .entry)) (now (steps .entry)) (now (coefficients .entry)) ⌝ }
+    ensures { λ r. ⌜ number-and-place r ≡ job-returned (dequantize-job (now (quantized .entry)) (now (steps .entry)) (now (coefficients .entry))) ⌝ }
+    ensures { λ r. ⌜ now (coefficients .exit) ≡ job-left (dequantize-job (now (quantized .entry)) (now (steps .entry)) (now (coefficients .entry))) ⌝ }
+    ensures { λ r. ⌜ now (quantized .exit) ≡ now (quantized .entry) ⌝ }
+    ensures { λ r. ⌜ now (steps .exit) ≡ now (steps .entry) ⌝ }
 {
     told(quantization::dequantize(quantized, steps, coefficients))
 }
@@ -151,8 +161,9 @@ pub extern "C" fn weld_dct_dequantize(
 // 64 coefficients as floats.
 #[no_mangle]
 pub extern "C" fn weld_dct_to_floats(coefficients: &[i32], floats: &mut [f32]) -> Returned
-    ensures { λ r. ⌜ number-and-place r ≡ to-floats-returned (now (coefficients .entry)) (length (now (floats .entry))) ⌝ }
-    ensures { λ r. ⌜ now (floats .exit) ≡ to-floats-floats (now (coefficients .entry)) (now (floats .entry)) ⌝ }
+    ensures { λ r. ⌜ number-and-place r ≡ job-returned (to-floats-job (now (coefficients .entry)) (now (floats .entry))) ⌝ }
+    ensures { λ r. ⌜ now (floats .exit) ≡ job-left (to-floats-job (now (coefficients .entry)) (now (floats .entry))) ⌝ }
+    ensures { λ r. ⌜ now (coefficients .exit) ≡ now (coefficients .entry) ⌝ }
 {
     told(block_floats::to_floats(coefficients, floats))
 }
@@ -181,7 +192,9 @@ fn told_summary(s: BlockSummary) -> SummaryReturned
 // A block in its mean grey and its largest other coefficient.
 #[no_mangle]
 pub extern "C" fn weld_dct_summary(coefficients: &[i32]) -> SummaryReturned
-    ensures { λ r. ⌜ summary-record r ≡ summary-given (now (coefficients .entry)) ⌝ }
+    ensures { λ r. ⌜ summary-record r .answer ≡ job-returned (summary-job (now (coefficients .entry))) ⌝ }
+    ensures { λ r. ⌜ summary-record r .given ≡ job-left (summary-job (now (coefficients .entry))) ⌝ }
+    ensures { λ r. ⌜ now (coefficients .exit) ≡ now (coefficients .entry) ⌝ }
 {
     told_summary(block_floats::summary(coefficients))
 }
@@ -197,9 +210,10 @@ pub struct RangeReturned {
 // The lowest and the highest float of a coefficient sheet.
 #[no_mangle]
 pub extern "C" fn weld_dct_sheet_range(words: &[u32]) -> RangeReturned
-    ensures { λ r. ⌜ number-and-place (r .returned) ≡ range-returned (now (words .entry)) ⌝ }
-    ensures { λ r. ⌜ r .lowest ≡ range-lowest (now (words .entry)) ⌝ }
-    ensures { λ r. ⌜ r .highest ≡ range-highest (now (words .entry)) ⌝ }
+    ensures { λ r. ⌜ number-and-place (r .returned) ≡ job-returned (range-job (now (words .entry))) ⌝ }
+    ensures { λ r. ⌜ r .lowest ≡ job-left (range-job (now (words .entry))) .lowest ⌝ }
+    ensures { λ r. ⌜ r .highest ≡ job-left (range-job (now (words .entry))) .highest ⌝ }
+    ensures { λ r. ⌜ now (words .exit) ≡ now (words .entry) ⌝ }
 {
     let ranged = sheet_range::sheet_range(words);
     let answer = ranged.answer;

@@ -6,10 +6,12 @@ use Prim.Native.Nat.{ℕ, suc, _+_, _-_, _*_, _%_, _^_, _≤_, _<_, zero-le}
 use native.Mathlib.Decide.{decLt}
 use native.Mathlib.Nat.{not-suc-le-zero, lt-of-le-of-lt}
 use native.Mathlib.Omega.{arith}
-use lib.Dec.{T, ltb→lt, leb→le, lit<, lt→ltb, le→leb}
+use lib.Dec.{T, lit<}
 use lib.IntN.{ℤ, pos, negsuc, _+ℤ_, _-ℤ_, negℤ, natAbs}
-use lib.Signed.{_≤ℤ_, _<ℤ_, ltZ, mag, nonNeg, natAbs-le}
+use lib.Signed.{ltZ, mag, nonNeg, natAbs-le}
 use borrow.Author.Tests.{lt-ltb, le-ltb, ltb-true}
+use Rattle.integers.specs.Range.{outside}
+use Rattle.integers.proofs.Ranges.{inside-mag, mag-inside}
 use Rattle.words.specs.Word.{payloads, kind, payload, word, value-limit, value, payload-of, across, down}
 
 -- the kind and the payload of a word
@@ -40,11 +42,11 @@ sizes-of-parts w = omega arith
 -- values: -2^27 to 2^27 - 1
 
 abbrev pub InRange : ℤ → Type 0
-InRange z = (negℤ (pos value-limit) ≤ℤ z) × (z <ℤ pos value-limit)
+InRange z = outside (negℤ (pos value-limit)) (pos (value-limit - 1)) z ≡ false
 
 pub small-in-range : (z : ℤ) → natAbs z < value-limit → InRange z
-small-in-range (pos n) h = (record { le = tt }, record { lt = lt→ltb n value-limit h })
-small-in-range (negsuc n) h = (record { le = le→leb n (value-limit - 1) (omega arith) }, record { lt = tt })
+small-in-range (pos n) h = mag-inside (value-limit - 1) (pos n) (omega arith)
+small-in-range (negsuc n) h = mag-inside (value-limit - 1) (negsuc n) (omega arith)
 
 -- the two halves: payloads without the sign bit, and with it
 
@@ -110,8 +112,7 @@ not-negative (pos m) e = tt
 not-negative (negsuc m) e = subst T e tt
 
 in-range-mag : (z : ℤ) → InRange z → mag z < value-limit
-in-range-mag (pos n) r = ltb→lt n value-limit (r .1 .lt)
-in-range-mag (negsuc n) r = lt-of-le-of-lt (leb→le n (value-limit - 1) (r .0 .le)) (lit< tt)
+in-range-mag z r = lt-of-le-of-lt (inside-mag (value-limit - 1) z r) (lit< tt)
 
 pub value-of-payload : (z : ℤ) → InRange z → value (payload-of z) ≡ z
 value-of-payload (pos n) r = rw (payload-of-pos n) (value-low n (in-range-mag (pos n) r))
@@ -130,13 +131,13 @@ payload-of-value p l = go (decLt p value-limit)
     go (yes h) = rw (value-low p h) (payload-of-pos p)
     go (no h) = rw (value-negsuc p (omega arith) l) (payload-of-negsuc (payloads - suc p) ∙ omega arith)
 
+-- any payload: a format whose range is this one refuses none
 pub value-in-range : (p : ℕ) → p < payloads → InRange (value p)
 value-in-range p l = go (decLt p value-limit)
   where
     go : Dec (p < value-limit) → InRange (value p)
     go (yes h) = rw (value-low p h) (small-in-range (pos p) h)
-    go (no h) =
-        rw (value-negsuc p (omega arith) l) (record { le = le→leb (payloads - suc p) (value-limit - 1) (omega arith) }, record { lt = tt })
+    go (no h) = rw (value-negsuc p (omega arith) l) (mag-inside (value-limit - 1) (negsuc (payloads - suc p)) (omega arith))
 
 pub value-small : (w : ℕ) → natAbs (value (payload w)) ≤ value-limit
 value-small w = natAbs-le (value (payload w)) (in-range-mag (value (payload w)) (value-in-range (payload w) (payload-below w)))

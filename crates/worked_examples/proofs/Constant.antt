@@ -20,9 +20,10 @@ use Rattle.ring.proofs.Linear.{linear-sum, linear-scale}
 use Rattle.ring.proofs.Product.{mul-left, mul-right}
 use Rattle.ring.proofs.Ring.{scale-integer}
 use Rattle.limits.specs.Limits.{places, components-size}
-use Rattle.dct.specs.Transform.{factor, element, double-sum}
+use Rattle.dct.specs.Transform.{factor, element, double-sum, double-sum-by}
+use Rattle.dct.proofs.Factors.{eight-factor}
 use Rattle.dct.proofs.Dimensions.{element-by-number, double-sum-cong}
-use Rattle.element_sets.specs.Sets.{sample, elements-of}
+use Rattle.element_sets.specs.Sets.{sample, elements-by, elements-of}
 use Rattle.worked_examples.specs.Examples.{all, at-corner}
 
 -- the sum of the factors of a frequency
@@ -45,9 +46,10 @@ unfolding product-at
 product u v h k = eqList→≡ _ _ (every₂-at 8 product-at product-test u v h k)
 
 double-sum-constant : (z : ℤ) (u v : ℕ) → double-sum (λ i j. z) u v ≡ scale z (mul (factor-sum u) (factor-sum v))
-unfolding double-sum factor-sum
+unfolding double-sum-by factor-sum
 double-sum-constant z u v =
-    sum-cong [] add 8 _ _ (λ i h. sym (linear-sum (scale z) (linear-scale z) 8 (λ j. mul (factor u i) (factor v j))) ∙ ap (scale z) (sym (linear-sum (mul (factor u i)) (mul-right (factor u i)) 8 (factor v))))
+    sum-cong [] add 8 _ _ (λ i h. sym (linear-sum (scale z) (linear-scale z) 8 (λ j. mul (factor u i) (factor v j)))
+    ∙ ap (scale z) (sym (linear-sum (mul (factor u i)) (mul-right (factor u i)) 8 (factor v))))
     ∙ sym (linear-sum (scale z) (linear-scale z) 8 (λ i. mul (factor u i) (factor-sum v)))
     ∙ ap (scale z) (sym (linear-sum (λ a. mul a (factor-sum v)) (mul-left (factor-sum v)) 8 (factor u)))
 
@@ -55,11 +57,11 @@ double-sum-constant z u v =
 
 samples-constant : (z : ℤ) (u v : ℕ) → double-sum (λ i j. sample (all z) (8 * i + j)) u v ≡ double-sum (λ i j. z) u v
 samples-constant z u v =
-    double-sum-cong (λ i j. sample (all z) (8 * i + j)) (λ i j. z) u v (λ i j h l. getD-table places (λ n. z) (pos 0) (8 * i + j) (omega arith))
+    double-sum-cong factor (λ i j. sample (all z) (8 * i + j)) (λ i j. z) u v (λ i j h l. getD-table places (λ n. z) (pos 0) (8 * i + j) (omega arith))
 
 element-constant : (z : ℤ) (p : ℕ) → p < places → element 2 (sample (all z)) p ≡ integer (z *ℤ corner p)
 element-constant z p h =
-    element-by-number (sample (all z)) p h
+    element-by-number eight-factor (sample (all z)) p h
     ∙ samples-constant z (p / 8) (p % 8) ∙ double-sum-constant z (p / 8) (p % 8)
     ∙ ap (scale z) (product (p / 8) (p % 8) (omega arith) (omega arith))
     ∙ scale-integer z (corner (8 * (p / 8) + p % 8)) ∙ ap (λ (n : ℕ). integer (z *ℤ corner n)) split
@@ -85,7 +87,7 @@ corner-component z i = component-integer (z *ℤ corner (i / 8)) (i % 8) (omega 
 
 -- u_0 at (0,0) is 128·z, and all else is 0
 pub constant : (z : ℤ) → elements-of 2 (all z) ≡ at-corner (z *ℤ pos 128)
-unfolding elements-of
+unfolding elements-by
 constant z =
     is-table (pos 0) (table components-size f) components-size (λ i. cond (eqb i 0) (z *ℤ pos 128) (pos 0)) (length-table components-size f)
     (λ i h. getD-table components-size f (pos 0) i h ∙ ap (λ a. component a (i % 8)) (element-constant z (i / 8) (omega arith)) ∙ corner-component z i)

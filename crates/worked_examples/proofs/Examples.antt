@@ -5,7 +5,7 @@ use lib.IntN.{pos, negsuc}
 use Rattle.integers.specs.Nearest.{half-up, half-away}
 use Rattle.integers.specs.Sum.{sum}
 use Rattle.ring.specs.Element.{cosine, basis-product, mul}
-use Rattle.dct.specs.Transform.{factor, factors, element}
+use Rattle.dct.specs.Transform.{factor, factors-by, element-by}
 use Rattle.rounding_error.specs.Root.{root}
 use Rattle.rounding_error.specs.Width.{numerator, coefficient}
 use Rattle.rounding.specs.Tables.{table-numbers}
@@ -19,7 +19,7 @@ a also b = (a, b)
 
 -- each line is computed, but for the blocks whose samples are all the same, of which `constant` speaks; a line here is an example of the table
 pub examples-hold : Hold examples
-unfolding examples cosine mul basis-product sum factor factors element root numerator coefficient half-up half-away table-numbers
+unfolding examples cosine mul basis-product sum factor factors-by element-by root numerator coefficient half-up half-away table-numbers
 examples-hold =
     refl also refl also refl also refl
     also refl also refl

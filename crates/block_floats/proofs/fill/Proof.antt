@@ -9,7 +9,7 @@ use Rattle.integers.proofs.Tables.{Filled, filled-none, filled-more, filled-all
 use Rattle.limits.specs.Limits.{places}
 use Rattle.floats.specs.Fraction.{coefficient-float, plus-zero}
 use Rattle.block_floats.specs.ToFloats.{coefficient-at}
-use Rattle.block_floats.proofs.Causes.{small}
+use Rattle.block_floats.proofs.Acceptance.{small}
 use Rattle.block_floats.proofs.fill.Statement.{statement}
 use Rattle.block_floats.proofs.fill.Tie as tie
 

@@ -9,15 +9,15 @@ use Rattle.block_floats.proofs.largest.Tie as tie
 
 returns : tie.Need-returns
 unfolding ofBits
-returns c = sym (ap (λ s. summarized s .largest) (c .enum-told .given .1))
+returns c = sym (ap (λ s. summarized s .given .largest) (c .enum-told .given .1))
 
 returns-2 : tie.Need-returns-2
 unfolding ofBits
-returns-2 c = sym (ap (λ s. summarized s .largest) (c .enum-told2 .given .1))
+returns-2 c = sym (ap (λ s. summarized s .given .largest) (c .enum-told2 .given .1))
 
 returns-3 : tie.Need-returns-3
 unfolding ofBits
-returns-3 c = sym (ap (λ s. summarized s .largest) (c .enum-told3 .given .1))
+returns-3 c = sym (ap (λ s. summarized s .given .largest) (c .enum-told3 .given .1))
 
 pub largest-spec : {M : Type 1} → statement M
 largest-spec =

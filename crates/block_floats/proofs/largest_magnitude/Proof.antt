@@ -17,7 +17,7 @@ use Rattle.limits.specs.Limits.{coefficient-limit}
 use Rattle.block_floats.specs.Preconditions.{Within}
 use Rattle.block_floats.specs.Summary.{magnitude-at}
 use Rattle.block_floats.specs.ToFloats.{coefficient-at}
-use Rattle.block_floats.proofs.Causes.{small}
+use Rattle.block_floats.proofs.Acceptance.{small}
 use Rattle.block_floats.proofs.Magnitudes.{held, Largest, largest-one, largest-more, largest-all}
 use Rattle.block_floats.proofs.largest_magnitude.Statement.{statement}
 use Rattle.block_floats.proofs.largest_magnitude.Tie as tie

@@ -9,7 +9,7 @@ use mir.Val.{ofZ}
 use borrow.Author.Needs.{needs}
 use Rattle.integers.proofs.Signed.{read-i32}
 use Rattle.block_floats.specs.ToFloats.{coefficient-at}
-use Rattle.block_floats.proofs.Causes.{small}
+use Rattle.block_floats.proofs.Acceptance.{small}
 use Rattle.block_floats.proofs.Magnitudes.{Before, before-first, before-more, found-place, not-before}
 use Rattle.block_floats.proofs.largest_place.Statement.{statement}
 use Rattle.block_floats.proofs.largest_place.Tie as tie
@@ -56,4 +56,5 @@ returns-2 c = absurd (not-before (c .before .before .args .coefficients .now) (c
 pub largest-place-spec : {M : Type 1} → statement M
 largest-place-spec =
     tie.close
-    (tie.spec Inv-loop μ-loop loop-holds (λ c. omega arith) (λ c. omega (arith, c .before .before .pre .0 .size)) magnitude-requires returns (λ c. omega arith) (λ c. omega arith) loop-again returns-2)
+    (tie.spec Inv-loop μ-loop loop-holds (λ c. omega arith) (λ c. omega (arith, c .before .before .pre .0 .size)) magnitude-requires returns (λ c. omega arith)
+    (λ c. omega arith) loop-again returns-2)

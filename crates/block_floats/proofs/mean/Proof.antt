@@ -9,11 +9,11 @@ use Rattle.block_floats.proofs.mean.Tie as tie
 
 returns : tie.Need-returns
 unfolding ofBits
-returns c = sym (ap (λ s. summarized s .mean) (c .enum-told .given .1))
+returns c = sym (ap (λ s. summarized s .given .mean) (c .enum-told .given .1))
 
 returns-2 : tie.Need-returns-2
 unfolding ofBits
-returns-2 c = sym (ap (λ s. summarized s .mean) (c .enum-told2 .given .1))
+returns-2 c = sym (ap (λ s. summarized s .given .mean) (c .enum-told2 .given .1))
 
 pub mean-spec : {M : Type 1} → statement M
 mean-spec =

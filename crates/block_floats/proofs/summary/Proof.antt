@@ -1,8 +1,9 @@
--- `summary` meets its contract: one law of causes for each refusal, and of magnitudes for a flat and for a textured block.
+-- `summary` meets its contract: each refusal has its reason, and a flat and a textured block have their law of magnitudes.
 -- Assumes nothing.
-use mathlib.Core.Path.{_≡_, sym, ap, ap₂, _∙_}
+use mathlib.Core.Path.{_≡_, refl, sym, ap, ap₂, _∙_}
 use mathlib.Core.List.{List}
 use Prim.Native.Nat.{ℕ, _<_}
+use native.Mathlib.Nat.{suc-ne-zero}
 use native.Mathlib.Omega.{arith}
 use lib.Dec.{lit<}
 use lib.IntN.{ℤ}
@@ -11,26 +12,40 @@ use mir.Val.{ofZ}
 use borrow.Author.Needs.{needs}
 use Rattle.integers.proofs.Signed.{in32, read-i32}
 use Rattle.limits.specs.Limits.{places}
+use Rattle.answers.specs.Answer.{holds, passes, accept}
+use Rattle.answers.specs.Job.{job-returned, job-left}
+use Rattle.answers.proofs.Causes.{some-found, none-found, right-length, wrong-length}
+use Rattle.answers.proofs.Jobs.{only-reason, refused, done}
 use Rattle.floats.specs.Fraction.{coefficient-float, mean-grey}
 use Rattle.block_floats.specs.Preconditions.{Within}
-use Rattle.block_floats.specs.Summary.{flat, textured-with, magnitude-at, largest-place}
+use Rattle.block_floats.specs.Summary.{Given, flat, textured-with, magnitude-at, largest-place, block-summary, summary-job}
 use Rattle.block_floats.specs.ToFloats.{coefficient-at}
-use Rattle.block_floats.proofs.Causes.{within, small, summary-length, summary-beyond, summary-gives}
+use Rattle.block_floats.proofs.Acceptance.{small, summary-accepts}
 use Rattle.block_floats.proofs.Magnitudes.{held, largest-other, flat-block, textured-block}
 use Rattle.block_floats.proofs.summary.Statement.{statement}
 use Rattle.block_floats.proofs.summary.Tie as tie
 
 returns : tie.Need-returns
-returns c = summary-length (c .before .args .coefficients .now) (c .if1 .taken)
+returns c =
+    let job = summary-job (c .before .args .coefficients .now) in
+    let e = only-reason job (holds (wrong-length (c .if1 .taken))) in
+    (e, (refused job e refl (suc-ne-zero 0), refl))
 
 returns-2 : tie.Need-returns-2
 returns-2 c =
     let asked = c .before .before in
-    summary-beyond (asked .before .args .coefficients .now) (asked .if1 .left) (c .before .first-beyond .ensures) (c .if2 .taken)
+    let job = summary-job (asked .before .before .args .coefficients .now) in
+    let one = some-found _ _ (asked .any-outside .ensures) (c .before .if2 .taken) (c .first-outside .ensures) in
+    let e = only-reason job (passes (right-length (asked .before .if1 .left)) (holds one)) in
+    (e, (refused job e refl (suc-ne-zero 10), refl))
 
 -- past the refusals
+
 accepted : (c : tie.Else2) → Within (c .before .before .before .args .coefficients .now)
-accepted c = within (c .before .before .before .args .coefficients .now) (c .before .before .if1 .left) (c .before .first-beyond .ensures) (c .if2 .left)
+accepted c = record { size = c .before .before .if1 .left; none-beyond = none-found _ _ (c .before .any-outside .ensures) (c .if2 .left) }
+
+gives : (y : List ℤ) → Within y → {g : Given} → g ≡ block-summary y → (accept ≡ job-returned (summary-job y)) × ((g ≡ job-left (summary-job y)) × (y ≡ y))
+gives y W e = let a = sym (summary-accepts y W) in (a, (done (summary-job y) a refl refl e, refl))
 
 mean-grey-requires : tie.Need-mean-grey-requires
 mean-grey-requires c κs =
@@ -46,7 +61,7 @@ returns-3 c =
     let ready = looked .before .before .before in
     let y = ready .before .before .before .args .coefficients .now in
     let mean = looked .before .mean-grey .ensures ∙ ap mean-grey (read-i32 (coefficient-at y 0) (search needs)) in
-    ap flat mean ∙ flat-block y (ap (ofZ w32) (looked .largest-magnitude .ensures)) (c .if3 .taken) ∙ sym (summary-gives y (accepted ready))
+    gives y (accepted ready) (ap flat mean ∙ flat-block y (ap (ofZ w32) (looked .largest-magnitude .ensures)) (c .if3 .taken))
 
 largest-place-requires : tie.Need-largest-place-requires
 largest-place-requires c κs =
@@ -87,11 +102,11 @@ returns-4 c =
     let p = c .before .before .largest-place .result in
     let mean = looked .before .mean-grey .ensures ∙ ap mean-grey (read-i32 (coefficient-at y 0) (search needs)) in
     let largest = c .coefficient-float .ensures ∙ ap coefficient-float (read-i32 (coefficient-at y p) (search needs) ∙ ap (coefficient-at y) (c .before .before .largest-place .ensures)) in
-    ap₂ textured-with mean largest ∙ textured-block y (ap (ofZ w32) (looked .largest-magnitude .ensures)) (tested .if3 .left)
-    ∙ sym (summary-gives y (accepted ready))
+    gives y (accepted ready) (ap₂ textured-with mean largest ∙ textured-block y (ap (ofZ w32) (looked .largest-magnitude .ensures)) (tested .if3 .left))
 
 pub summary-spec : {M : Type 1} → statement M
 summary-spec =
     tie.close
-    (tie.spec returns (λ c κs. search needs) returns-2 (λ c. search needs) mean-grey-requires largest-magnitude-requires returns-3 largest-place-requires
+    (tie.spec returns (λ c. search needs) (λ c κs. omega (arith, c .if1 .left)) (λ c. search needs) (λ c κs. omega (arith, c .before .before .if1 .left)) returns-2
+    (λ c. search needs) mean-grey-requires largest-magnitude-requires returns-3 largest-place-requires
     mul-coefficient-float shared-slice-copy-out-coefficient-float coefficient-float-requires returns-4)

@@ -1,5 +1,6 @@
 -- `fours_step` meets its contract: one part.
 -- Assumes nothing.
+use native.Mathlib.Omega.{arith}
 use lib.Dec.{lit<}
 use Rattle.dct.specs.Rows.{fours}
 use Rattle.element_steps.proofs.Sums.{even-place, odd-place, room-part, sum-one, all-parts}
@@ -10,8 +11,8 @@ returns : tie.Need-returns
 returns c =
     let (R, C) = c .before .before .before .before .pre in
     let a = c .before .before .before .parts .ensures in
-    c .join .ensures _ (all-parts R fours even-place 1 C (sum-one R fours even-place a (c .before .before .even-product .ensures)))
-    (all-parts R fours odd-place 1 C (sum-one R fours odd-place a (c .before .odd-product .ensures)))
+    c .join .ensures _ (all-parts R fours even-place 1 (λ j h. (omega arith, omega arith)) C (sum-one R fours even-place a (c .before .before .even-product .ensures)))
+    (all-parts R fours odd-place 1 (λ j h. (omega arith, omega arith)) C (sum-one R fours odd-place a (c .before .odd-product .ensures)))
 
 pub fours-step-spec : {M : Type 1} → statement M
 fours-step-spec =

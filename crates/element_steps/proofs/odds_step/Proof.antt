@@ -1,5 +1,6 @@
 -- `odds_step` meets its contract: four parts, summed one after the other, for the even frequencies and then for the odd ones.
 -- Assumes nothing.
+use native.Mathlib.Omega.{arith}
 use lib.Dec.{lit<}
 use Rattle.dct.specs.Rows.{odds}
 use Rattle.element_steps.proofs.Sums.{Summed, even-place, odd-place, room-part, room-product, room-sum, sum-one, sum-more, all-parts}
@@ -70,7 +71,7 @@ returns c =
     let d = c .before .before .before .before .before .before .before .before .before .before .before .before .before .before .before .parts4 .ensures in
     let e = sum-more R odds even-place 3 (even-three (c .before .before .before .before .before .before .before .before .before .before)) d (c .before .before .before .before .before .before .before .before .before .even-product4 .ensures) (c .before .before .before .before .before .before .before .before .add-halves3 .ensures) in
     let o = sum-more R odds odd-place 3 (odd-three (c .before .before .before)) d (c .before .before .odd-product4 .ensures) (c .before .add-halves6 .ensures) in
-    c .join .ensures _ (all-parts R odds even-place 4 C e) (all-parts R odds odd-place 4 C o)
+    c .join .ensures _ (all-parts R odds even-place 4 (λ j h. (omega arith, omega arith)) C e) (all-parts R odds odd-place 4 (λ j h. (omega arith, omega arith)) C o)
 
 pub odds-step-spec : {M : Type 1} → statement M
 odds-step-spec =

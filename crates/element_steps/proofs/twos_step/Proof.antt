@@ -1,5 +1,6 @@
 -- `twos_step` meets its contract: two parts.
 -- Assumes nothing.
+use native.Mathlib.Omega.{arith}
 use lib.Dec.{lit<}
 use Rattle.dct.specs.Rows.{twos}
 use Rattle.element_steps.proofs.Sums.{even-place, odd-place, room-part, room-product, room-sum, sum-one, sum-more, all-parts}
@@ -27,7 +28,7 @@ returns c =
     let b = c .before .before .before .before .before .before .before .parts2 .ensures in
     let e = sum-more R twos even-place 1 (sum-one R twos even-place a (c .before .before .before .before .before .before .even-product .ensures)) b (c .before .before .before .before .before .even-product2 .ensures) (c .before .before .before .before .add-halves .ensures) in
     let o = sum-more R twos odd-place 1 (sum-one R twos odd-place a (c .before .before .before .odd-product .ensures)) b (c .before .before .odd-product2 .ensures) (c .before .add-halves2 .ensures) in
-    c .join .ensures _ (all-parts R twos even-place 2 C e) (all-parts R twos odd-place 2 C o)
+    c .join .ensures _ (all-parts R twos even-place 2 (λ j h. (omega arith, omega arith)) C e) (all-parts R twos odd-place 2 (λ j h. (omega arith, omega arith)) C o)
 
 pub twos-step-spec : {M : Type 1} → statement M
 twos-step-spec =

@@ -23,7 +23,7 @@ returns-2 c =
     let start = said .before .before .before .before .before in
     let e = start .args .elements .now in
     let number = said .number .ensures ∙ ap (λ r. r .number) (forward .0) in
-    c .same .ensures ∙ ap (λ l. eqList l e) (forward .1)
+    c .same .ensures ∙ ap (λ l. eqList l e) (forward .1 .0)
     ∙ forward-accepts 2 (start .args .t2) e (replicate 512 (pos 0)) (sym number ∙ c .before .before .if1 .left)
 
 pub is-block-of-spec : {M : Type 1} → statement M

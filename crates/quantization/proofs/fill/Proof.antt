@@ -10,7 +10,7 @@ use lib.ListN.{getD}
 use mir.Syntax.{w32}
 use mir.Val.{SFits}
 use borrow.Author.Needs.{needs}
-use borrow.Author.Tests.{ltb-false}
+use Rattle.integers.proofs.Ranges.{within-limit}
 use Rattle.integers.proofs.Signed.{in32, read-i32, kept}
 use Rattle.integers.proofs.Tables.{Filled, filled-none, filled-more, filled-all}
 use Rattle.limits.specs.Limits.{places, coefficient-limit}
@@ -54,7 +54,7 @@ quantized-requires c κs =
     let p = at .loop .p in
     let y = getD (start .args .coefficients .now) p (pos 0) in
     let read = read-i32 y (search needs) in (
-      rw read (ltb-false coefficient-limit (natAbs y) (start .pre .none-beyond p (omega arith))),
+      rw read (within-limit coefficient-limit y (start .pre .none-beyond p (omega arith))),
       rw (step-read (start .args .steps .now) (at .before .indices .ensures) p (omega arith)) (step-inside (start .pre .ready .ready-steps) p (omega arith)),
     )
 
@@ -66,7 +66,7 @@ loop-again c =
     let y = getD (start .args .coefficients .now) p (pos 0) in
     let step = step-read (start .args .steps .now) (at .before .indices .ensures) p (omega arith) in
     filled-more (omega arith) (at .loop .inv)
-    (stored (step-of (start .args .steps .now) p) (search needs) (ltb-false coefficient-limit (natAbs y) (start .pre .none-beyond p (omega arith)))
+    (stored (step-of (start .args .steps .now) p) (search needs) (within-limit coefficient-limit y (start .pre .none-beyond p (omega arith)))
     (step-inside (start .pre .ready .ready-steps) p (omega arith) .0) (c .quantized .ensures ∙ ap (quantized (in32 y)) step))
 
 same-length : tie.Need-same-length Inv-loop μ-loop

@@ -6,16 +6,15 @@ use native.Mathlib.Omega.{arith}
 use lib.IntN.{pos}
 use lib.ListN.{getD}
 use borrow.Author.Needs.{needs}
+use Rattle.integers.specs.Range.{beyond, beyond-at}
 use Rattle.integers.proofs.Search.{Passed, passed-none, passed-more, first-at, first-none}
 use Rattle.integers.proofs.Signed.{read-i64}
-use Rattle.limits.specs.Limits.{places}
-use Rattle.quantizer.specs.Quantizer.{dequantized-beyond}
-use Rattle.quantization.specs.Preconditions.{product-beyond-at}
+use Rattle.limits.specs.Limits.{places, dequantized-limit}
 use Rattle.quantization.proofs.first_product_beyond.Statement.{statement}
 use Rattle.quantization.proofs.first_product_beyond.Tie as tie
 
 abbrev Inv-loop : tie.InvT-loop
-Inv-loop products p₀ p = Passed places (product-beyond-at products) p
+Inv-loop products p₀ p = Passed places (beyond-at dequantized-limit products) p
 
 abbrev μ-loop : tie.MeasureT-loop
 μ-loop products p₀ p = 64 - p
@@ -24,13 +23,13 @@ returns : tie.Need-returns Inv-loop μ-loop
 returns c =
     let at = c .before .before .before .before in
     let read = read-i64 (getD (at .before .args .products .now) (at .loop .p) (pos 0)) (search needs) in
-    sym (first-at places _ _ (omega arith) (at .loop .inv) (ap dequantized-beyond (sym read) ∙ sym (c .before .dequantized-beyond .ensures) ∙ c .if1 .taken))
+    sym (first-at places _ _ (omega arith) (at .loop .inv) (ap (beyond dequantized-limit) (sym read) ∙ sym (c .before .dequantized-beyond .ensures) ∙ c .if1 .taken))
 
 loop-again : tie.Need-loop-again Inv-loop μ-loop
 loop-again c =
     let at = c .before .before .before .before in
     let read = read-i64 (getD (at .before .args .products .now) (at .loop .p) (pos 0)) (search needs) in
-    passed-more (omega arith) (at .loop .inv) (ap dequantized-beyond (sym read) ∙ sym (c .before .dequantized-beyond .ensures) ∙ c .if1 .left)
+    passed-more (omega arith) (at .loop .inv) (ap (beyond dequantized-limit) (sym read) ∙ sym (c .before .dequantized-beyond .ensures) ∙ c .if1 .left)
 
 returns-2 : tie.Need-returns-2 Inv-loop μ-loop
 returns-2 c =

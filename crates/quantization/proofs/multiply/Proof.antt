@@ -8,11 +8,12 @@ use lib.ListN.{getD}
 use mir.Syntax.{w32, w64}
 use mir.Val.{SFits}
 use borrow.Author.Needs.{needs}
+use Rattle.integers.specs.Range.{beyond}
 use Rattle.integers.proofs.Search.{Asked, asked-none, asked-more, asked-all}
 use Rattle.integers.proofs.Signed.{in32, in64, read-i32, kept}
 use Rattle.integers.proofs.Tables.{Filled, filled-none, filled-more, filled-all}
-use Rattle.limits.specs.Limits.{places, step-limit}
-use Rattle.quantizer.specs.Quantizer.{dequantized, dequantized-beyond}
+use Rattle.limits.specs.Limits.{places, step-limit, dequantized-limit}
+use Rattle.quantizer.specs.Quantizer.{dequantized}
 use Rattle.quantizer.proofs.Values.{step-inside, step-read, product-small}
 use Rattle.quantizer.proofs.ZigZag.{read-below, index-fits, offset-fits}
 use Rattle.quantization.specs.Quantization.{dequantized-at, dequantized-beyond-at}
@@ -62,7 +63,7 @@ loop-again c =
     let q = getD (start .args .values .now) p (pos 0) in
     let step = step-read (start .args .steps .now) (at .before .indices .ensures) p (omega arith) in
     let z = product {q = q} (search needs) step (step-inside (start .pre .ready-steps) p (omega arith) .1) (made .dequantized .ensures) in
-    (filled-more (omega arith) (at .loop .inv .0) z, asked-more (omega arith) (at .loop .inv .1) (c .dequantized-beyond .ensures ∙ ap dequantized-beyond z))
+    (filled-more (omega arith) (at .loop .inv .0) z, asked-more (omega arith) (at .loop .inv .1) (c .dequantized-beyond .ensures ∙ ap (beyond dequantized-limit) z))
 
 same-length : tie.Need-same-length Inv-loop μ-loop
 same-length c = c .before .loop .inv .0 .each .size ∙ sym (c .before .before .before .before .pre .room)

@@ -11,19 +11,19 @@ use lib.ListN.{getD}
 use mir.Syntax.{w32, w64}
 use mir.Val.{SFits}
 use borrow.Author.Needs.{needs}
-use borrow.Author.Tests.{ltb-false}
+use Rattle.integers.specs.Range.{beyond}
 use Rattle.integers.proofs.Magnitudes.{small-fits}
+use Rattle.integers.proofs.Ranges.{within-limit}
 use Rattle.integers.proofs.Signed.{in32, in64, read-i64, kept}
 use Rattle.integers.proofs.Tables.{is-table, Filled, filled-none, filled-more, filled-all}
 use Rattle.limits.specs.Limits.{places, dequantized-limit}
-use Rattle.quantizer.specs.Quantizer.{dequantized-beyond}
 use Rattle.quantization.proofs.narrow.Statement.{statement}
 use Rattle.quantization.proofs.narrow.Tie as tie
 
 -- a product z within the limit, as it is read back, fits an i32
-module _ {z : ℤ} (f : SFits w64 z) (h : dequantized-beyond z ≡ false) where
+module _ {z : ℤ} (f : SFits w64 z) (h : beyond dequantized-limit z ≡ false) where
   small : natAbs z < 2 ^ 31
-  small = lt-of-le-of-lt (ltb-false dequantized-limit (natAbs z) h) (lit< tt)
+  small = lt-of-le-of-lt (within-limit dequantized-limit z h) (lit< tt)
 
   fits : SFits w32 (in64 z)
   fits = rw (read-i64 z f) (small-fits w32 z small)

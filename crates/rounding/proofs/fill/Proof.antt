@@ -7,23 +7,21 @@ use native.Mathlib.Omega.{arith}
 use lib.Dec.{T}
 use lib.IntN.{ℤ, pos}
 use Rattle.integers.proofs.Tables.{Filled, filled-none, filled-more, filled-all}
+use Rattle.limits.specs.Limits.{places, halvings}
 use Rattle.ring.specs.Element.{magnitudes}
-use Rattle.limits.specs.Limits.{places, magnitudes-limit, halvings}
 use Rattle.rounding_error.specs.Width.{coefficient}
-use Rattle.rounding.specs.Preconditions.{Allowed}
+use Rattle.rounding.specs.Preconditions.{ample-limit, Allowed}
 use Rattle.rounding.specs.Rounding.{coefficient-at}
 use Rattle.rounding.specs.Tables.{width, table-numbers}
-use Rattle.rounding.proofs.Sizes.{sized}
 use Rattle.rounding.proofs.Steps.{coefficient-kept}
 use Rattle.rounding.proofs.fill.Statement.{statement}
 use Rattle.rounding.proofs.fill.Tie as tie
 
-allowed : {b : ℕ} {m u v : List ℤ} → T (width b) → m ≡ table-numbers b → u ≡ v → magnitudes v ≤ magnitudes-limit → Allowed b m u
+allowed : {b : ℕ} {m u v : List ℤ} → T (width b) → m ≡ table-numbers b → u ≡ v → magnitudes v ≤ ample-limit → Allowed b m u
 allowed w e f h = record { at-width = w; are-numbers = e; in-limit = rw f h }
 
 abbrev Inv-loop : tie.InvT-loop
-Inv-loop elements b coefficients₀ numbers-at-b i₀ coefficients i =
-    Filled (pos 0) places (coefficient-at 2 b elements) i coefficients
+Inv-loop elements b coefficients₀ numbers-at-b i₀ coefficients i = Filled (pos 0) places (coefficient-at halvings b elements) i coefficients
 
 abbrev μ-loop : tie.MeasureT-loop
 μ-loop elements b coefficients₀ numbers-at-b i₀ coefficients i = 64 - i
@@ -32,22 +30,22 @@ numbers-at-requires : tie.Need-numbers-at-requires Inv-loop μ-loop
 numbers-at-requires c κs = c .pre .ready-width
 
 loop-holds : tie.Need-loop-holds Inv-loop μ-loop
-loop-holds c = filled-none (c .before .pre .coefficients-length)
+loop-holds c = filled-none (c .before .pre .ready-room)
 
 coefficient-requires : tie.Need-coefficient-requires Inv-loop μ-loop
 coefficient-requires c κs =
     let start = c .before .before .before .before in
     let table = c .before .before .before .numbers-at .ensures in
-    allowed (start .pre .ready-width) table (c .element-at .ensures) (start .pre .ready-set .in-limit _ (omega arith))
+    (allowed (start .pre .ready-width) table (c .element-at .ensures) (start .pre .ready-set .in-limit _ (omega arith)), start .pre .ready-halvings)
 
 loop-again : tie.Need-loop-again Inv-loop μ-loop
 loop-again c =
     let start = c .before .before .before .before .before in
     let table = c .before .before .before .before .numbers-at .ensures in
     let element = c .before .element-at .ensures in
-    let bounds = sized (allowed (start .pre .ready-width) table element (start .pre .ready-set .in-limit _ (omega arith))) in
+    let bounds = allowed (start .pre .ready-width) table element (start .pre .ready-set .in-limit _ (omega arith)) in
     filled-more (omega arith) (c .before .before .before .loop .inv)
-    (coefficient-kept bounds (c .coefficient .ensures) ∙ ap₂ (coefficient halvings (start .args .b)) table element)
+    (coefficient-kept bounds (start .pre .ready-halvings) (c .coefficient .ensures) ∙ ap₂ (coefficient halvings (start .args .b)) table element)
 
 returns : tie.Need-returns Inv-loop μ-loop
 returns c = filled-all (omega arith) (c .before .loop .inv)

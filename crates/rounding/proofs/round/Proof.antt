@@ -1,64 +1,62 @@
--- `round` meets its contract: one law of causes for each way out.
+-- `round` meets its contract: the check decides, and past it `fill` makes the coefficients.
 -- Assumes nothing.
-use mathlib.Core.Path.{sym, ap, _∙_}
-use lib.ListN.{length}
+use mathlib.Core.Path.{refl, _∙_}
+use lib.Dec.{eqb→eq, lit≤}
+use borrow.Author.Needs.{needs}
 use Rattle.integers.proofs.Tables.{length-table}
-use Rattle.limits.specs.Limits.{places}
-use Rattle.rounding.specs.Rounding.{coefficient-at}
-use Rattle.rounding.proofs.Causes.{refused-elements, refused-coefficients, refused-width, refused-magnitudes, ready, accepted-call}
+use Rattle.limits.specs.Limits.{places, halvings}
+use Rattle.answers.proofs.Jobs.{refused, is-accepted, done}
+use Rattle.rounding.specs.Rounding.{coefficient-at, round-job}
+use Rattle.rounding.proofs.Distance.{all-near}
+use Rattle.rounding.proofs.Blocks.{accepted-means, ready}
 use Rattle.rounding.proofs.round.Statement.{statement}
 use Rattle.rounding.proofs.round.Tie as tie
 
 returns : tie.Need-returns
 returns c =
-    let start = c .before in
-    refused-elements (start .args .elements .now) (start .args .b) (start .args .coefficients .now) (c .if1 .taken)
-
-returns-2 : tie.Need-returns-2
-returns-2 c =
-    let start = c .before .before in
-    refused-coefficients (start .args .elements .now) (start .args .b) (start .args .coefficients .now) (c .before .if1 .left) (c .if2 .taken)
-
-returns-3 : tie.Need-returns-3
-returns-3 c =
-    let start = c .before .before .before .before in
-    refused-width (start .args .elements .now) (start .args .b) (start .args .coefficients .now)
-    (c .before .before .before .if1 .left) (c .before .before .if2 .left) (c .before .is-width .ensures) (c .if3 .taken)
-
-first-above-requires : tie.Need-first-above-requires
-first-above-requires c κs = c .before .before .before .if1 .left
-
-returns-4 : tie.Need-returns-4
-returns-4 c =
-    let searched = c .before in
-    let start = searched .before .before .before .before .before in
-    refused-magnitudes (start .args .elements .now) (start .args .b) (start .args .coefficients .now)
-    (searched .before .before .before .before .if1 .left) (searched .before .before .before .if2 .left)
-    (searched .before .before .is-width .ensures) (searched .before .if3 .left) (searched .first-above .ensures) (c .if4 .taken)
+    let asked = c .before .before in
+    let args = asked .before .args in
+    let job = round-job 2 (args .elements .now) (args .b) (args .coefficients .now) in (
+      asked .check .ensures,
+      (
+        refused job (asked .check .ensures) (c .before .number .ensures) (c .if1 .taken),
+        ((λ h. absurd (c .if1 .taken (c .before .number .ensures ∙ eqb→eq _ 0 h))), refl),
+      ),
+    )
 
 fill-requires : tie.Need-fill-requires
 fill-requires c κs =
-    let searched = c .before .before in
-    let start = searched .before .before .before .before .before in
-    ready (start .args .elements .now) (start .args .b) (start .args .coefficients .now)
-    (searched .before .before .before .before .if1 .left) (searched .before .before .before .if2 .left)
-    (searched .before .before .is-width .ensures) (searched .before .if3 .left) (searched .first-above .ensures) (c .before .if4 .left)
+    let asked = c .before .before .before in
+    let args = asked .before .args in
+    let job = round-job 2 (args .elements .now) (args .b) (args .coefficients .now) in
+    let accepted = is-accepted job (asked .check .ensures) (c .before .before .number .ensures) (c .before .if1 .left) in
+    let (S, l, w) = accepted-means 2 (args .elements .now) (args .b) (args .coefficients .now) accepted in
+    ready 2 (args .elements .now) (args .b) (args .coefficients .now) (lit≤ tt) (lit≤ tt) S l w
 
 same-length : tie.Need-same-length
 same-length c =
-    let passed = c .before .before .before .before .before .before .before in
-    let args = passed .before .before .args in
-    ap length (c .before .fill .ensures) ∙ length-table places (coefficient-at 2 (args .b) (args .elements .now)) ∙ sym (passed .if2 .left)
+    let told = c .before .before .before .before in
+    let asked = told .before in
+    let args = asked .before .args in
+    let job = round-job 2 (args .elements .now) (args .b) (args .coefficients .now) in
+    let accepted = is-accepted job (asked .check .ensures) (told .number .ensures) (c .before .before .before .if1 .left) in
+    let (S, l, w) = accepted-means 2 (args .elements .now) (args .b) (args .coefficients .now) accepted in
+    rw (c .before .fill .ensures, l) (length-table places (coefficient-at halvings (args .b) (args .elements .now)))
 
-returns-5 : tie.Need-returns-5
-returns-5 c =
-    let searched = c .before .before .before .before in
-    let start = searched .before .before .before .before .before in
-    accepted-call (start .args .elements .now) (start .args .b) (start .args .coefficients .now)
-    (searched .before .before .before .before .if1 .left) (searched .before .before .before .if2 .left)
-    (searched .before .before .is-width .ensures) (searched .before .if3 .left) (searched .first-above .ensures)
-    (c .before .before .before .if4 .left) (c .before .fill .ensures)
+returns-2 : tie.Need-returns-2
+returns-2 c =
+    let told = c .before .before .before .before in
+    let asked = told .before in
+    let args = asked .before .args in
+    let job = round-job 2 (args .elements .now) (args .b) (args .coefficients .now) in
+    let accepted = is-accepted job (asked .check .ensures) (told .number .ensures) (c .before .before .before .if1 .left) in
+    let (S, l, w) = accepted-means 2 (args .elements .now) (args .b) (args .coefficients .now) accepted in (
+      asked .check .ensures,
+      (
+        done job (asked .check .ensures) (told .number .ensures) (c .before .before .before .if1 .left) (c .before .fill .ensures),
+        ((λ h. rw (c .before .fill .ensures) (all-near 2 (args .elements .now) (args .b) (lit≤ tt) S w)), refl),
+      ),
+    )
 
 pub round-spec : {M : Type 1} → statement M
-round-spec =
-    tie.close (tie.spec returns returns-2 (λ c κs. tt) returns-3 first-above-requires returns-4 fill-requires same-length returns-5)
+round-spec = tie.close (tie.spec (λ c κs. search needs) (λ c κs. search needs) returns fill-requires same-length returns-2)

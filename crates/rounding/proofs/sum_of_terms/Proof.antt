@@ -4,7 +4,7 @@ use Prim.Native.Nat.{_-_}
 use native.Mathlib.Omega.{arith}
 use mir.Syntax.{w64}
 use mir.Val.{toZ}
-use Rattle.rounding.proofs.Sizes.{sized}
+use Rattle.rounding.proofs.Tables.{width-small}
 use Rattle.rounding.proofs.Steps.{step-fits, step-kept, first-step, next-step}
 use Rattle.rounding.proofs.Halves.{step-small, Summed, summed-none, summed-more, summed-all}
 use Rattle.rounding.proofs.sum_of_terms.Statement.{statement}
@@ -17,22 +17,22 @@ abbrev μ-loop : tie.MeasureT-loop
 μ-loop b first step table-numbers a n₀ k₀ n k = 7 - k
 
 power-of-two-requires : tie.Need-power-of-two-requires Inv-loop μ-loop
-power-of-two-requires c κs = omega (arith, sized (c .before .pre .0) .width-bound)
+power-of-two-requires c κs = omega (arith, width-small (c .before .args .b) (c .before .pre .0 .at-width))
 
 plus-product-requires : tie.Need-plus-product-requires Inv-loop μ-loop
-plus-product-requires c κs = step-fits (first-step (sized (c .before .before .before .pre .0)) (c .before .power-of-two .ensures))
+plus-product-requires c κs = step-fits (first-step (c .before .before .before .pre .0) (c .before .power-of-two .ensures))
 
 loop-holds : tie.Need-loop-holds Inv-loop μ-loop
 loop-holds c =
     let power = c .before .before in
     let start = power .before .before in
-    summed-none _ _ _ (start .pre .1) (step-kept (first-step (sized (start .pre .0)) (power .power-of-two .ensures)) (c .plus-product .ensures))
+    summed-none _ _ _ (start .pre .1) (step-kept (first-step (start .pre .0) (power .power-of-two .ensures)) (c .plus-product .ensures))
 
 plus-product-requires-2 : tie.Need-plus-product-requires-2 Inv-loop μ-loop
 plus-product-requires-2 c κs =
     let at = c .before .before .before in
     let start = at .before .before .before .before .before in
-    step-fits (next-step (sized (start .pre .0)) (at .loop .k) (c .before .before .loop-test .taken) (at .loop .n) (at .loop .inv .value))
+    step-fits (next-step (start .pre .0) (at .loop .k) (c .before .before .loop-test .taken) (at .loop .n) (at .loop .inv .value))
 
 add-k : tie.Need-add-k Inv-loop μ-loop
 add-k c = omega (arith, step-small (c .before .before .before .before .before .before .before .before .before .pre .1))
@@ -46,7 +46,7 @@ loop-again c =
     let start = at .before .before .before .before .before in
     let taken = c .before .before .before .loop-test .taken in
     summed-more _ _ _ (start .pre .1) taken (at .loop .inv)
-    (step-kept (next-step (sized (start .pre .0)) (at .loop .k) taken (at .loop .n) (at .loop .inv .value)) (c .plus-product2 .ensures))
+    (step-kept (next-step (start .pre .0) (at .loop .k) taken (at .loop .n) (at .loop .inv .value)) (c .plus-product2 .ensures))
 
 returns : tie.Need-returns Inv-loop μ-loop
 returns c =

@@ -5,12 +5,13 @@ use Prim.Native.Nat.{_-_}
 use native.Mathlib.Omega.{arith}
 use Rattle.sheet_checks.specs.Check.{blocks}
 use Rattle.sheet_checks.proofs.Sheets.{some-blocks}
+use Rattle.sheet_blocks.specs.Blocks.{element-scratch}
 use Rattle.sheet_blocks.proofs.Loop.{Reached, reached-none, reached-more, checked-on}
 use Rattle.sheet_blocks.proofs.all_blocks.Statement.{statement}
 use Rattle.sheet_blocks.proofs.all_blocks.Tie as tie
 
 abbrev Inv-loop : tie.InvT-loop
-Inv-loop words b scratch₀ output₀ n state₀ scratch output state = Reached words b output₀ (state .blocks) (state .totals) scratch output
+Inv-loop words b scratch₀ output₀ n state₀ scratch output state = Reached element-scratch words b output₀ (state .blocks) (state .totals) scratch output
 
 abbrev μ-loop : tie.MeasureT-loop
 μ-loop words b scratch₀ output₀ n state₀ scratch output state = n - state .blocks

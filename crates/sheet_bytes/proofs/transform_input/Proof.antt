@@ -1,6 +1,6 @@
 -- `transform_input` meets its contract: bytes over are refused, and whole words go to the sheet job.
 -- Assumes nothing.
-use mathlib.Core.Path.{sym, ap}
+use mathlib.Core.Path.{refl, sym, ap}
 use native.Mathlib.Omega.{arith}
 use lib.ListN.{replicate}
 use borrow.Author.Needs.{needs}
@@ -14,7 +14,8 @@ returns c =
     let read = c .before .before in
     let args = read .before .before .args in
     let refused = c .refused .ensures in
-    bytes-over (args .input .now) (read .least .ensures) (args .output .now) (λ z. c .before .if1 .taken (omega arith)) (ap returned (refused .0)) (refused .1 .0) (refused .1 .1)
+    let (a, (t, l)) = bytes-over (args .input .now) (read .least .ensures) (args .output .now) (λ z. c .before .if1 .taken (omega arith)) (ap returned (refused .0)) (refused .1) in
+    (a, (t, (l, refl)))
 
 slice-aggregate-load : tie.Need-slice-aggregate-load
 slice-aggregate-load c = sym (count (c .before .before .before .before .args .input .now) (c .before .before .least .ensures))
@@ -37,8 +38,9 @@ returns-2 c =
     let read = load .before .before .before .before in
     let args = read .before .before .args in
     let promised = made .sheet .ensures in
-    whole-words (args .input .now) (read .least .ensures) (load .load .last .1 .0) (replicate 8195 0) (load .load .ensures) (args .output .now) (search needs)
-    (load .before .before .before .if1 .left) (promised .0) (promised .1 .0) (promised .1 .1 .0) (promised .1 .1 .1 .1)
+    let (a, (t, l)) = whole-words (args .input .now) (read .least .ensures) (load .load .last .1 .0) (replicate 8195 0) (load .load .ensures) (args .output .now) (search needs)
+    (load .before .before .before .if1 .left) (promised .0) (promised .1 .0) (promised .1 .1 .1 .0) in
+    (a, (t, (l, refl)))
 
 pub transform-input-spec : {M : Type 1} → statement M
 transform-input-spec =

@@ -1,15 +1,15 @@
 -- `convert` meets its contract: a refused sheet becomes its line, and an accepted one the line of its sums.
 -- Assumes nothing.
-use mathlib.Core.Path.{ap₂, _∙_}
+use mathlib.Core.Path.{refl, sym, ap, _∙_}
 use mathlib.Core.List.{List}
 use Prim.Native.Nat.{ℕ}
-use lib.IntN.{pos}
 use lib.ListN.{take}
 use borrow.Author.Needs.{needs}
-use Rattle.answers.proofs.Causes.{accepted-leaves}
-use Rattle.sheet_blocks.specs.Sums.{firsts-total, samples-total}
-use Rattle.sheet_bytes.specs.Program.{input-limit, input-returned, program-width, words-of}
-use Rattle.sheet_bytes.proofs.Programs.{accepted-bytes, accepted-input, promised, refused-bytes}
+use Rattle.answers.proofs.Jobs.{done}
+use Rattle.sheet_blocks.specs.declared.Totals.{Totals}
+use Rattle.sheet_blocks.specs.Sums.{firsts-total, no-totals, samples-total, sheet-totals}
+use Rattle.sheet_bytes.specs.Program.{input-job, input-limit, program-width}
+use Rattle.sheet_bytes.proofs.Programs.{accepted-bytes, promised, refused-bytes}
 use Rattle.sum_bytes.specs.Output.{sum-bytes, sum-line}
 use Rattle.sum_bytes.proofs.convert.Statement.{statement}
 use Rattle.sum_bytes.proofs.convert.Tie as tie
@@ -25,7 +25,8 @@ returns c =
     let asked = told .before in
     let args = asked .before .before .before .args in
     let is = refused-bytes (take input-limit (args .input .now)) (asked .transform-input .ensures .0) (told .number .ensures) sums-of (c .before .before .if1 .taken) in
-    promised (args .output .now) is (c .refusal .ensures .0) (c .refusal .ensures .1)
+    let (m, (l, counts)) = promised (args .output .now) is (c .refusal .ensures .0) (c .refusal .ensures .1) in
+    (m, (l, (counts, refl)))
 
 returns-2 : tie.Need-returns-2
 unfolding sum-bytes
@@ -36,12 +37,10 @@ returns-2 c =
     let args = asked .before .before .before .args in
     let bytes = take input-limit (args .input .now) in
     let made = asked .transform-input .ensures in
-    let answer = input-returned bytes in
-    let t = accepted-input bytes (made .0) (told .number .ensures) (tested .if1 .left) in
-    let samples = made .1 .0 ∙ accepted-leaves answer (samples-total (words-of bytes)) (pos 0) t in
-    let firsts = made .1 .1 .0 ∙ accepted-leaves answer (firsts-total program-width (words-of bytes)) (pos 0) t in
-    let is = ap₂ sum-line samples firsts ∙ accepted-bytes bytes (made .0) (told .number .ensures) sums-of (tested .if1 .left) in
-    promised (args .output .now) is (c .line .ensures .0) (c .line .ensures .1)
+    let totals = made .1 .0 ∙ sym (done (input-job (sheet-totals program-width) no-totals bytes) (made .0) (told .number .ensures) (tested .if1 .left) refl) in
+    let is = ap (λ (t : Totals). sum-line (t .samples) (t .firsts)) totals ∙ accepted-bytes bytes (made .0) (told .number .ensures) sums-of (tested .if1 .left) in
+    let (m, (l, counts)) = promised (args .output .now) is (c .line .ensures .0) (c .line .ensures .1) in
+    (m, (l, (counts, refl)))
 
 pub convert-spec : {M : Type 1} → statement M
 convert-spec =

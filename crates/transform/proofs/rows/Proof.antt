@@ -19,7 +19,7 @@ use Rattle.transform.proofs.rows.Statement.{statement}
 use Rattle.transform.proofs.rows.Tie as tie
 
 -- the components that the rows 0, 4, 6 and 1 have
-spanned : T (spans fours 1 0) × T (spans fours 1 4) × T (spans twos 2 6) × T (spans odds 4 1)
+spanned : T (spans factor fours 1 0) × T (spans factor fours 1 4) × T (spans factor twos 2 6) × T (spans factor odds 4 1)
 unfolding sum restricted factor cosine
 spanned = (tt, tt, tt, tt)
 

@@ -1,6 +1,6 @@
 -- `convert` meets its contract: a refused sheet becomes a line, and an accepted one its bytes.
 -- Assumes nothing.
-use mathlib.Core.Path.{sym, _∙_}
+use mathlib.Core.Path.{refl, sym, _∙_}
 use native.Mathlib.Omega.{arith}
 use lib.ListN.{take, replicate, length-replicate}
 use borrow.Author.Needs.{needs}
@@ -19,7 +19,8 @@ returns c =
     let asked = told .before in
     let args = asked .before .before .before .args in
     let is = refused-bytes (take input-limit (args .input .now)) (asked .transform-input .ensures .0) (told .number .ensures) sheet-bytes (c .before .before .if1 .taken) in
-    promised (args .output .now) is (c .refusal .ensures .0) (c .refusal .ensures .1)
+    let (m, (l, counts)) = promised (args .output .now) is (c .refusal .ensures .0) (c .refusal .ensures .1) in
+    (m, (l, (counts, refl)))
 
 -- past the test of the number, and the place
 left : (c : tie.After-place) → Written (take input-limit (c .before .before .before .before .before .before .args .input .now))
@@ -29,7 +30,7 @@ left c =
     let asked = told .before in
     let input = asked .before .before .before .args .input .now in
     written (take input-limit input) (asked .transform-input .ensures .0) (told .number .ensures) (c .place .ensures) (c .before .if1 .left)
-    (replicate words-limit 0) (asked .transform-input .last .1 .0) (length-replicate {A = ℕ} words-limit 0) (asked .transform-input .ensures .1 .1 .1)
+    (replicate words-limit 0) (asked .transform-input .last .1 .0) (length-replicate {A = ℕ} words-limit 0) (asked .transform-input .ensures .1 .1 .0)
 
 array-share-prefix-made : tie.Need-array-share-prefix-made
 array-share-prefix-made c = omega (arith, left c .room, left c .size)
@@ -44,7 +45,8 @@ returns-2 : tie.Need-returns-2
 returns-2 c =
     let w = left (c .before .before .before) in
     let args = c .before .before .before .before .before .before .before .before .before .args in
-    promised (args .output .now) (w .is) (c .store .ensures .0 ∙ sym (length-bytes _)) (c .store .ensures .1)
+    let (m, (l, counts)) = promised (args .output .now) (w .is) (c .store .ensures .0 ∙ sym (length-bytes _)) (c .store .ensures .1) in
+    (m, (l, (counts, refl)))
 
 pub convert-spec : {M : Type 1} → statement M
 convert-spec =

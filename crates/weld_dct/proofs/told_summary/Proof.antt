@@ -9,8 +9,8 @@ use Rattle.block_floats.specs.Summary.{Summarized}
 use Rattle.weld_dct.proofs.told_summary.Statement.{statement}
 use Rattle.weld_dct.proofs.told_summary.Tie as tie
 
-recorded : (g : Summarized) {r : Returned} {t : ℕ} {m l : Float} → r ≡ g .answer → t ≡ g .textured → m ≡ g .mean → l ≡ g .largest
-    → _≡_ {A = Summarized} (record { answer = r; textured = t; mean = m; largest = l }) g
+recorded : (g : Summarized) {r : Returned} {t : ℕ} {m l : Float} → r ≡ g .answer → t ≡ g .given .textured → m ≡ g .given .mean → l ≡ g .given .largest
+    → _≡_ {A = Summarized} (record { answer = r; given = record { textured = t; mean = m; largest = l } }) g
 recorded g e f h k = rw (e, f, h, k)
 
 returns : tie.Need-returns
