@@ -1,15 +1,10 @@
 -- The papers' number and place tell every answer from every other.
--- Assumes nothing.
-use mathlib.Core.Path.{_≡_, refl, sym, ap, _∙_}
-use mathlib.Core.Bool.{cond}
-use mathlib.Core.List.{List, [], _∷_}
-use lib.Dec.{eqb}
-use lib.ListN.{getD}
+use Rattle.integers.specs.Kit.{_≡_, refl, sym, ap, _∙_, cond, List, [], _∷_, eqb, getD}
 use Rattle.answers.specs.declared.Answer.{Answer}
 use Rattle.answers.specs.declared.Answer.the-variants.{Accepted, Lengths, Sample, Width, Magnitudes, NoBlock, Head, Words, End, Orientation, Step, Coefficient}
 use Rattle.answers.specs.Answer.{Returned, returned}
 
--- the answer that has a number and a place, and none where there is none
+-- the case that has a number, with the place where the case carries one; none where no case has the number
 abbrev answers-of : Returned → List Answer
 answers-of r =
     cond (eqb (r .number) 0) (Accepted (r .place) ∷ [])

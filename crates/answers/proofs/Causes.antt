@@ -1,13 +1,8 @@
 -- The causes of a refusal, for every list of them: what is returned has a reason, and no other answer has one; it is an acceptance exactly when no cause
 -- holds.
--- Assumes nothing.
-use mathlib.Core.Path.{_≡_, refl, sym, subst, _∙_}
-use mathlib.Core.Bool.{Bool, true, false, cond}
-use mathlib.Core.List.{List, [], _∷_, _++_}
-use Prim.Native.Nat.{ℕ, _≤_, _<_}
+use Rattle.integers.specs.Kit.{_≡_, refl, sym, subst, _∙_, Bool, true, false, cond, List, [], _∷_, _++_, ℕ, _≤_, _<_, T, eqb, ltb}
 use native.Mathlib.Nat.{le-refl, le-of-lt, lt-of-lt-of-le}
 use native.Mathlib.Omega.{arith}
-use lib.Dec.{T, eqb, ltb}
 use borrow.Author.Tests.{eq-eqb, ne-eqb, lt-ltb, le-ltb, ltb-true, ltb-false}
 use Rattle.integers.specs.Search.{any, first}
 use Rattle.integers.proofs.Search.{first-none, before-first, at-first, first-at, any-none}

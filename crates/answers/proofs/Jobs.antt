@@ -1,8 +1,5 @@
 -- The laws of every job: a call has a reason, and no other answer has one; it is accepted exactly when no cause holds; and what it leaves.
--- Assumes nothing.
-use mathlib.Core.Path.{_≡_, sym, _∙_}
-use mathlib.Core.Bool.{Bool, true, false, cond}
-use Prim.Native.Nat.{ℕ}
+use Rattle.integers.specs.Kit.{_≡_, sym, _∙_, Bool, true, false, cond, ℕ}
 use Rattle.integers.proofs.Tests.{holds}
 use Rattle.answers.specs.Answer.{Returned, Reason, Each, Passes, Numbered, accepted}
 use Rattle.answers.specs.Job.{Job, job-returned, job-left, Accepts, Refuses}

@@ -1,9 +1,5 @@
 -- What a call returns (01, "Why a set or sheet is turned back", and 02, which adds numbers): a number, which is 0 for an accepted call, and a place.
-use mathlib.Core.Path.{_≡_}
-use mathlib.Core.Bool.{Bool, true, false, cond}
-use mathlib.Core.List.{List, [], _∷_}
-use Prim.Native.Nat.{ℕ, _+_, _<_}
-use lib.Dec.{T, ltb, eqb}
+use Rattle.integers.specs.Kit.{_≡_, Bool, true, false, cond, List, [], _∷_, ℕ, _+_, _<_, T, ltb, eqb}
 use Rattle.integers.specs.Search.{first}
 use Rattle.answers.specs.declared.Answer.{Answer}
 use Rattle.answers.specs.declared.Answer.the-variants.{Accepted, Lengths, Sample, Width, Magnitudes, NoBlock, Head, Words, End, Orientation, Step, Coefficient}
@@ -51,17 +47,13 @@ sized given asked = unless (eqb given asked) 1
 abbrev pub lowest : ℕ → (ℕ → Bool) → ℕ → Cause
 lowest size faulty n = search size faulty (λ i. record { number = n; place = i })
 
--- the cause at the lowest of the indices below `size` that has one: `cause i` is 0 where index i has none
-abbrev pub lowest-cause : ℕ → (ℕ → ℕ) → Cause
-lowest-cause size cause = search size (λ i. ltb 0 (cause i)) (λ i. record { number = cause i; place = i })
-
 -- no cause is left: "An accepted call returns 0 and place 0, a sheet 0 and the words written"
 
-abbrev pub accept-words : ℕ → Returned
-accept-words n = record { number = 0; place = n }
+abbrev pub accept-with : ℕ → Returned
+accept-with n = record { number = 0; place = n }
 
 abbrev pub accept : Returned
-accept = accept-words 0
+accept = accept-with 0
 
 -- what a call returns: the first cause that holds, and `end` where none does
 unfoldable pub answered : List Cause → Returned → Returned

@@ -1,9 +1,9 @@
 // What the public jobs answer. specs/ gives the papers' number and place for each case.
-ghost use mathlib.Core.Path.{_≡_};
+ghost use Rattle.integers.specs.Kit.{_≡_};
 ghost use Rattle.answers.specs.Answer.{returned};
 
 pub enum Answer {
-    // The call did its work: sheet in this many words, two orientations with the one that they are, every other job with 0.
+    // The call did its work. The number is how many words sheet wrote; of compose_orientations, the orientation; of every other job, 0.
     Accepted(usize),
     // A buffer does not have the length that the job asks for.
     Lengths,

@@ -1,20 +1,14 @@
 -- The magnitudes of an element's components sum to at most S · 8 · 16^(d-1) in d dimensions, where no sample's magnitude is above S.
--- Assumes nothing.
-use mathlib.Core.Path.{_≡_, sym, ap}
-use mathlib.Core.Bool.{Bool}
-use mathlib.Core.List.{List}
-use Prim.Native.Nat.{ℕ, zero, suc, _+_, _*_, _/_, _%_, _^_, _≤_, _<_}
+use Rattle.integers.specs.Kit.{_≡_, sym, ap, Bool, List, ℕ, zero, suc, _+_, _*_, _/_, _%_, _^_, _≤_, _<_, T, leb, ℤ, pos}
 use native.Mathlib.Nat.{le-trans, le-of-eq, mul-le-mul-left, mul-le-mul-right, mod-lt, mod-eq-of-lt, pow-suc, zero-lt-suc}
 use native.Mathlib.Omega.{arith}
-use lib.Dec.{T, leb, leb→le}
-use lib.IntN.{ℤ, pos}
+use lib.Dec.{leb→le}
 use Rattle.integers.specs.Sum.{sum}
-use Rattle.integers.specs.Test.{every}
+use Rattle.integers.specs.Test.{every, every₂}
 use Rattle.integers.proofs.Sums.{naturals, sum-cong, sum-le, sum-times}
-use Rattle.integers.proofs.Tests.{every-at, every₂, every₂-at}
-use Rattle.ring.specs.Element.{scale, only, cosine, basis-product, mul, magnitudes}
+use Rattle.integers.proofs.Tests.{every-at, every₂-at}
+use Rattle.ring.specs.Element.{scale, only, cosine, basis-product, mul, magnitudes, Eight}
 use Rattle.ring.proofs.Product.{mul-left}
-use Rattle.ring.proofs.Components.{Eight}
 use Rattle.ring.proofs.Magnitude.{magnitudes-scale, magnitudes-sum, magnitudes-linear}
 use Rattle.ring.proofs.Ring.{mul-one}
 use Rattle.dct.specs.Transform.{factor, factors, factors-by, element, element-by, Bounded}
@@ -22,7 +16,7 @@ use Rattle.dct.proofs.Factors.{eight-factor, eight-factors, factors-pla
 
 -- one dimension
 
--- the eight factors of a frequency
+-- the magnitudes of the eight factors of a frequency sum to at most 8
 factor-at : ℕ → Bool
 factor-at k = leb (sum 0 _+_ 8 (λ n. magnitudes (factor k n))) 8
 
@@ -30,7 +24,7 @@ factor-test : T (every 8 factor-at)
 unfolding sum factor-at factor cosine
 factor-test = tt
 
--- their products with a basis element, and then with any element
+-- those of their products with a basis element to at most 16, and so with any element to at most 16 times its own
 times-factor-at : ℕ → ℕ → Bool
 times-factor-at k j = leb (sum 0 _+_ 8 (λ n. magnitudes (mul (only (pos 1) j) (factor k n)))) 16
 
@@ -46,7 +40,7 @@ times-factor k h e =
 
 -- d dimensions
 
--- the magnitudes of all the factors that make one element
+-- those of all the factors that make one element, to at most 8 · 16^(d-1)
 weight : ℕ → ℕ → ℕ
 weight d p = sum 0 _+_ (8 ^ d) (λ q. magnitudes (factors d p q))
 

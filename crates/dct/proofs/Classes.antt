@@ -1,15 +1,10 @@
 -- Which components of a block's elements are 0, by the classes of their frequencies (01, "Consequences to be shown").
--- Assumes nothing.
-use mathlib.Core.Path.{_≡_, refl, ap, subst, _∙_}
-use mathlib.Core.Bool.{Bool, false, _||_}
-use mathlib.Core.List.{List, []}
-use Prim.Native.Nat.{ℕ, _<_}
-use lib.Dec.{T}
-use lib.IntN.{ℤ, pos, _+ℤ_, _*ℤ_, *ℤ-zero}
+use Rattle.integers.specs.Kit.{_≡_, refl, ap, subst, _∙_, Bool, false, _||_, List, [], ℕ, _<_, T, ℤ, pos, _+ℤ_, _*ℤ_}
+use lib.IntN.{*ℤ-zero}
 use Rattle.integers.specs.Sum.{sum}
-use Rattle.integers.specs.Test.{every, eqZ}
+use Rattle.integers.specs.Test.{every, eqZ, every₂}
 use Rattle.integers.proofs.Sums.{integers, sum-cong, sum-map, sum-none}
-use Rattle.integers.proofs.Tests.{every-at, every₂, every₂-at, eqZ→≡}
+use Rattle.integers.proofs.Tests.{every-at, every₂-at, eqZ→≡}
 use Rattle.ring.specs.Element.{component, add, scale, cosine, mul}
 use Rattle.ring.proofs.Components.{component-add, component-scale}
 use Rattle.dct.specs.Transform.{angle, factor, double-sum, double-sum-by, components-at, among}

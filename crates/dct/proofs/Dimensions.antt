@@ -1,17 +1,14 @@
 -- The element in other words: one dimension at a time, 01's double sum, columns and then rows, and T.81's formula.
--- Assumes nothing.
-use mathlib.Core.Path.{_≡_, sym, ap, ap₂, _∙_}
-use mathlib.Core.List.{List, []}
-use Prim.Native.Nat.{ℕ, zero, suc, _+_, _*_, _/_, _%_, _^_, _<_}
+use Rattle.integers.specs.Kit.{_≡_, sym, ap, ap₂, _∙_, List, [], ℕ, zero, suc, _+_, _*_, _/_, _%_, _^_, _<_, ℤ, pos}
 use native.Mathlib.Nat.{mod-eq-of-lt, mul-zero, mul-comm as times-comm}
 use native.Mathlib.Omega.{arith}
-use lib.IntN.{ℤ, pos}
 use Rattle.integers.specs.Sum.{sum}
 use Rattle.integers.proofs.Sums.{sum-cong, sum-swap}
-use Rattle.ring.specs.Element.{add, scale, integer, cosine, mul}
-use Rattle.ring.proofs.Linear.{LinearMap, elements, linear-sum, linear-scale, scale-scale}
+use Rattle.ring.specs.Element.{add, scale, integer, cosine, mul, Eight}
+use Rattle.ring.specs.Maps.{LinearMap}
+use Rattle.ring.proofs.Linear.{elements, linear-sum, linear-scale, scale-scale}
 use Rattle.ring.proofs.Product.{mul-left, mul-right, mul-comm, mul-swap}
-use Rattle.ring.proofs.Components.{Eight, eight-cosine}
+use Rattle.ring.proofs.Components.{eight-cosine}
 use Rattle.ring.proofs.Ring.{mul-one, mul-integer}
 use Rattle.ring.proofs.Cosines.{cosine-0}
 use Rattle.dct.specs.Transform.{factor, factors-by, element-by, double-sum, double-sum-by, step-by}

@@ -1,15 +1,12 @@
--- The factors: with all of their components, their products, and by the digits of their indices; the elements of a multiple of a block.
--- Assumes nothing.
-use mathlib.Core.Path.{_≡_, sym, ap, _∙_}
-use mathlib.Core.List.{List, []}
-use Prim.Native.Nat.{ℕ, zero, suc, _+_, _*_, _/_, _%_, _^_, _<_}
+-- The factors: they and their products have all eight components; the product of two by their angles; the factors of d + 1 dimensions by the last digits
+-- of the indices. And the elements of a multiple of a block.
+use Rattle.integers.specs.Kit.{_≡_, sym, ap, _∙_, List, [], ℕ, zero, suc, _+_, _*_, _/_, _%_, _^_, _<_, ℤ, pos, _+ℤ_, _-ℤ_, _*ℤ_}
 use native.Mathlib.Nat.{pow-suc, one-le-pow, zero-lt-suc}
 use native.Mathlib.Omega.{arith}
-use lib.IntN.{ℤ, pos, _+ℤ_, _-ℤ_, _*ℤ_}
 use Rattle.integers.specs.Sum.{sum}
 use Rattle.integers.proofs.Sums.{CommutativeMonoid, sum-blocks, sum-cong}
-use Rattle.ring.specs.Element.{add, scale, cosine, mul}
-use Rattle.ring.proofs.Components.{Eight, eight-only, eight-cosine, eight-scale, eight-sum, eight-mul}
+use Rattle.ring.specs.Element.{add, scale, cosine, mul, Eight}
+use Rattle.ring.proofs.Components.{eight-only, eight-cosine, eight-scale, eight-sum, eight-mul}
 use Rattle.ring.proofs.Cosines.{cosine-product}
 use Rattle.ring.proofs.Linear.{linear-scale, linear-sum, scale-scale}
 use Rattle.dct.specs.Transform.{angle, factor, factors-by, element-by, step-by}

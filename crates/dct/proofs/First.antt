@@ -1,9 +1,6 @@
 -- The first element of a block of two dimensions is twice the sum of its samples, and nothing else (02, request 5).
--- Assumes nothing.
-use mathlib.Core.Path.{_≡_, refl, sym, ap, _∙_}
-use mathlib.Core.List.{[]}
-use Prim.Native.Nat.{ℕ, _^_}
-use lib.IntN.{ℤ, pos, _+ℤ_, _*ℤ_, zero-*ℤ}
+use Rattle.integers.specs.Kit.{_≡_, refl, sym, ap, _∙_, [], ℕ, _^_, ℤ, pos, _+ℤ_, _*ℤ_}
+use lib.IntN.{zero-*ℤ}
 use Rattle.integers.specs.Sum.{sum}
 use Rattle.integers.proofs.Integer.{+ℤ-*ℤ}
 use Rattle.integers.proofs.Sums.{sum-cong, sum-map}
@@ -11,7 +8,7 @@ use Rattle.ring.specs.Element.{component, add, scale, integer, cosine, basis-pr
 use Rattle.ring.proofs.Components.{component-add, component-scale}
 use Rattle.dct.specs.Transform.{factor, factors, factors-by, element, element-by}
 
--- c_4 × c_4 = 2, whichever the sample
+-- c_4 × c_4 = 2, whichever the sample, since 0 has the digits 0 and 0, and t(0,n) is c_4 for each n
 first-factors : (q : ℕ) → factors 2 0 q ≡ integer (pos 2)
 unfolding factors-by factor cosine mul basis-product
 first-factors q = refl

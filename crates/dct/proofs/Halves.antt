@@ -1,17 +1,11 @@
 -- The step by halves: butterflies, which are the sums x_n + x_(7-n) and the differences x_n - x_(7-n), then the even frequencies from the sums,
 -- and the odd ones from the differences.
--- Assumes nothing.
-use mathlib.Core.Path.{_≡_, sym, ap, _∙_}
-use mathlib.Core.Bool.{Bool}
-use mathlib.Core.List.{List, []}
-use Prim.Native.Nat.{ℕ, _+_, _*_, _-_, _%_, _<_}
+use Rattle.integers.specs.Kit.{_≡_, sym, ap, _∙_, Bool, List, [], ℕ, _+_, _*_, _-_, _%_, _<_, T, ℤ, pos, negsuc}
 use native.Mathlib.Omega.{arith}
-use lib.Dec.{T}
-use lib.IntN.{ℤ, pos, negsuc}
 use Rattle.integers.specs.Sum.{sum}
-use Rattle.integers.specs.Test.{eqList}
+use Rattle.integers.specs.Test.{eqList, every₂}
 use Rattle.integers.proofs.Sums.{sum-append, sum-cong, sum-plus, sum-reverse}
-use Rattle.integers.proofs.Tests.{every₂, every₂-at, eqList→≡}
+use Rattle.integers.proofs.Tests.{every₂-at, eqList→≡}
 use Rattle.ring.specs.Element.{add, scale, negate, subtract, cosine, mul}
 use Rattle.ring.proofs.Linear.{elements, scale-one}
 use Rattle.ring.proofs.Product.{mul-left, mul-right}

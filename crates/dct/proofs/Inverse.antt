@@ -1,26 +1,23 @@
 -- The way back: the elements of a block, each times its factors at one place, sum to 16^d times the sample there. So a block is known by
 -- its elements. For one dimension the same holds of a row of any elements, in place of samples.
--- Assumes nothing.
-use mathlib.Core.Path.{_≡_, refl, sym, ap, _∙_}
-use mathlib.Core.List.{List, []}
-use Prim.Native.Nat.{ℕ, _^_, _<_}
+use Rattle.integers.specs.Kit.{_≡_, refl, sym, ap, _∙_, List, [], ℕ, _^_, _<_, ℤ, pos, _+ℤ_, _*ℤ_}
 use native.Mathlib.Nat.{one-le-pow, zero-lt-suc}
 use native.Mathlib.Omega.{arith}
-use lib.IntN.{ℤ, pos, _+ℤ_, _*ℤ_, zero-*ℤ}
+use lib.IntN.{zero-*ℤ}
 use Rattle.integers.specs.Sum.{sum}
 use Rattle.integers.proofs.Integer.{*ℤ-cancel}
 use Rattle.integers.proofs.Sums.{integers, sum-cong, sum-map, sum-swap, sum-only}
-use Rattle.ring.specs.Element.{component, add, scale, integer, mul}
+use Rattle.ring.specs.Element.{component, add, scale, integer, mul, Eight}
 use Rattle.ring.proofs.Linear.{elements, linear-sum}
 use Rattle.ring.proofs.Product.{mul-left, mul-right, mul-comm, mul-assoc}
-use Rattle.ring.proofs.Components.{Eight, eight-only, eight-scale, eight-sum, component-add, component-scale, same-components}
+use Rattle.ring.proofs.Components.{eight-only, eight-scale, eight-sum, component-add, component-scale, same-components}
 use Rattle.ring.proofs.Ring.{mul-integer, scale-integer}
-use Rattle.dct.specs.Inverse.{summed-back, step-back}
+use Rattle.dct.specs.Inverse.{gram, delta, summed-back, step-back}
 use Rattle.dct.specs.Transform.{factor, factors, element, element-by, step, step-by}
 use Rattle.dct.proofs.Factors.{eight-factor, eight-factors}
-use Rattle.dct.proofs.Orthogonal.{gram, delta, delta-same, delta-other, row-gram, row-gram-is, orthogonal}
+use Rattle.dct.proofs.Orthogonal.{delta-same, delta-other, row-gram, row-gram-is, orthogonal}
 
--- a matrix t that is orthogonal as the factors are: it takes elements x to others, and its transpose takes these to 16^d × x
+-- a matrix t whose Gram matrix is 16^d times the identity: it takes elements x to others, and its transpose takes these to 16^d × x
 module _ (d n : ℕ) (t : ℕ → ℕ → List ℤ) (gram-is : (q r : ℕ) → q < n → r < n → sum [] add n (λ p. mul (t p q) (t p r)) ≡ integer (delta d q r))
     (x : ℕ → List ℤ) (eights : (q : ℕ) → q < n → Eight (x q)) (r : ℕ) (h : r < n) where
   term : ℕ → ℕ → List ℤ

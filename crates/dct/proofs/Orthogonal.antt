@@ -1,34 +1,22 @@
 -- The factors are orthogonal: in one dimension by a computed test, in d dimensions by induction.
--- Assumes nothing.
-use mathlib.Core.Path.{_≡_, sym, ap, ap₂, _∙_}
-use mathlib.Core.Bool.{Bool, cond}
-use mathlib.Core.List.{List, []}
-use Prim.Native.Nat.{ℕ, zero, suc, _+_, _*_, _/_, _%_, _^_, _<_}
+use Rattle.integers.specs.Kit.{_≡_, sym, ap, ap₂, _∙_, Bool, List, [], ℕ, zero, suc, _+_, _*_, _/_, _%_, _^_, _<_, T, ℤ, pos, _*ℤ_}
 use native.Mathlib.Nat.{pow-suc}
 use native.Mathlib.Decide.{ℕ-discrete}
 use native.Mathlib.Omega.{arith}
-use lib.Dec.{T, eqb}
-use lib.IntN.{ℤ, pos, _*ℤ_, zero-*ℤ, *ℤ-zero}
+use lib.IntN.{zero-*ℤ, *ℤ-zero}
 use borrow.Author.Tests.{eq-eqb, ne-eqb}
 use Rattle.integers.specs.Sum.{sum}
-use Rattle.integers.specs.Test.{eqList}
+use Rattle.integers.specs.Test.{eqList, every₂}
 use Rattle.integers.proofs.Sums.{sum-cong}
-use Rattle.integers.proofs.Tests.{every₂, every₂-at, eqList→≡}
+use Rattle.integers.proofs.Tests.{every₂-at, eqList→≡}
 use Rattle.ring.specs.Element.{add, integer, cosine, mul}
 use Rattle.ring.proofs.Linear.{elements, linear-sum}
 use Rattle.ring.proofs.Product.{mul-left, mul-right, mul-swap}
 use Rattle.ring.proofs.Components.{eight-only}
 use Rattle.ring.proofs.Ring.{mul-one, mul-integer, scale-integer}
+use Rattle.dct.specs.Inverse.{gram, delta}
 use Rattle.dct.specs.Transform.{angle, factor, factors, factors-by}
 use Rattle.dct.proofs.Factors.{angle-product, factor-product, factors-frequency, sum-digits}
-
--- the sum over all indices p of the factors at place q × the factors at place r: the entries of the factors' Gram matrix
-unfoldable pub gram : ℕ → ℕ → ℕ → List ℤ
-gram d q r = sum [] add (8 ^ d) (λ p. mul (factors d p q) (factors d p r))
-
--- what they are if the factors are orthogonal: 16^d where q = r, and 0 otherwise
-unfoldable pub delta : ℕ → ℕ → ℕ → ℤ
-delta d q r = cond (eqb q r) (pos (16 ^ d)) (pos 0)
 
 pub delta-same : (d q r : ℕ) → q ≡ r → delta d q r ≡ pos (16 ^ d)
 unfolding delta

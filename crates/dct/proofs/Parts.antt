@@ -1,26 +1,21 @@
 -- A row by its parts. The step is linear over the ring, so that the step of a row is the sum, over the components that its elements have, of 1 or
 -- c_k, which the component counts, times the step of the whole numbers that stand there.
--- Assumes nothing.
-use mathlib.Core.Path.{_≡_, sym, ap, _∙_}
-use mathlib.Core.Bool.{Bool}
-use mathlib.Core.List.{List, []}
-use Prim.Native.Nat.{ℕ, zero, suc, _<_}
+use Rattle.integers.specs.Kit.{_≡_, sym, ap, _∙_, List, [], ℕ, zero, suc, _<_, T, ℤ, pos, _+ℤ_, _*ℤ_}
 use native.Mathlib.Nat.{zero-lt-suc}
 use native.Mathlib.Omega.{arith}
-use lib.Dec.{T}
-use lib.IntN.{ℤ, pos, _+ℤ_, _*ℤ_, *ℤ-comm}
+use lib.IntN.{*ℤ-comm}
 use Rattle.integers.specs.Sum.{sum}
-use Rattle.integers.specs.Test.{every, eqList}
+use Rattle.integers.specs.Test.{eqList}
 use Rattle.integers.proofs.Sums.{sum-cong, sum-map, sum-swap}
 use Rattle.integers.proofs.Tests.{every-at, eqList→≡}
-use Rattle.ring.specs.Element.{component, add, scale, integer, cosine, mul}
-use Rattle.ring.specs.Maps.{part}
-use Rattle.ring.proofs.Linear.{LinearForm, elements, linear-self, linear-sum}
+use Rattle.ring.specs.Element.{component, add, scale, integer, cosine, mul, Eight}
+use Rattle.ring.specs.Maps.{part, LinearForm}
+use Rattle.ring.proofs.Linear.{elements, linear-self, linear-sum}
 use Rattle.ring.proofs.Product.{mul-left, mul-right, mul-comm, mul-assoc}
-use Rattle.ring.proofs.Components.{Eight, eight-only, eight-scale, eight-sum, component-add, component-scale, cosine-only, form-component, same-components}
+use Rattle.ring.proofs.Components.{eight-only, eight-scale, eight-sum, component-add, component-scale, cosine-only, form-component, same-components}
 use Rattle.ring.proofs.Forms.{form-none, form-plus, form-times, form-same}
 use Rattle.ring.proofs.Ring.{mul-integer}
-use Rattle.dct.specs.Rows.{unit, restricted}
+use Rattle.dct.specs.Rows.{unit, restricted, spans}
 use Rattle.dct.specs.Transform.{step-by}
 use Rattle.dct.proofs.Factors.{eight-step}
 
@@ -33,7 +28,7 @@ pub unit-cosine : (k : ℕ) → 0 < k → k < 8 → cosine (pos k) ≡ unit k
 unit-cosine zero some h = absurd (omega arith)
 unit-cosine (suc k) some h = cosine-only k (omega arith)
 
--- the step of a row of which only some components count
+-- the step of a row that has only some components
 module _ (f : ℕ → ℕ → List ℤ) (k : ℕ → ℕ) (m : ℕ) (x : ℕ → List ℤ) (counts : (n : ℕ) → n < 8 → restricted m k (x n) ≡ x n) (v : ℕ) where
   term : ℕ → ℕ → List ℤ
   term n i = mul (unit (k i)) (mul (part (x n) (k i)) (f v n))
@@ -65,11 +60,7 @@ module _ (k : ℕ → ℕ) where
   unfolding restricted
   eight-restricted m a = eight-sum (suc m) _ (zero-lt-suc m) (λ i h. eight-scale (component a (k i)) (eight-only (pos 1) (k i)))
 
--- the factors of frequency u have these components alone: a computed test
-abbrev pub spans : (ℕ → ℕ → List ℤ) → (ℕ → ℕ) → ℕ → ℕ → Bool
-spans f k m u = every 8 (λ n. eqList (restricted m k (f u n)) (f u n))
-
--- and so have the frequencies u of whole numbers
+-- where the factors of frequency u have these components alone, so have the frequencies u of whole numbers
 pub restricted-step : {f : ℕ → ℕ → List ℤ} → ((k n : ℕ) → Eight (f k n)) → (k : ℕ → ℕ) (m : ℕ) (x : ℕ → ℤ) (u : ℕ) → T (spans f k (suc m) u)
     → restricted (suc m) k (step-by f (λ n. integer (x n)) u) ≡ step-by f (λ n. integer (x n)) u
 unfolding step-by

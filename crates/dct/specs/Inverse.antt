@@ -1,13 +1,18 @@
 -- What the way back sums (01, "What the library does"): over all elements of a block of d dimensions, over those of one row, and over the few
--- whole numbers by which a column of a block is known.
-use mathlib.Core.List.{List, [], _∷_}
-use Prim.Native.Nat.{ℕ, _+_, _*_, _^_}
-use lib.IntN.{ℤ, pos, negsuc, _+ℤ_, _*ℤ_}
-use lib.ListN.{getD}
+-- whole numbers by which a column of a block is known; and, for the theorem that it is an inverse, the Gram matrix of the factors.
+use Rattle.integers.specs.Kit.{cond, List, [], _∷_, ℕ, _+_, _*_, _^_, eqb, ℤ, pos, _+ℤ_, _*ℤ_, getD}
 use Rattle.integers.specs.Sum.{sum}
 use Rattle.ring.specs.Element.{component, add, mul}
 use Rattle.ring.specs.Maps.{dot}
 use Rattle.dct.specs.Transform.{factor, factors}
+
+-- the sum over all indices p of the factors at place q × the factors at place r: the entries of the factors' Gram matrix
+unfoldable pub gram : ℕ → ℕ → ℕ → List ℤ
+gram d q r = sum [] add (8 ^ d) (λ p. mul (factors d p q) (factors d p r))
+
+-- the whole numbers that they are (`orthogonal`), 16^d times the Kronecker delta: 16^d where q = r, and 0 otherwise
+unfoldable pub delta : ℕ → ℕ → ℕ → ℤ
+delta d q r = cond (eqb q r) (pos (16 ^ d)) (pos 0)
 
 -- the sum over all indices p of element e p × its factors at place r
 unfoldable pub summed-back : ℕ → (ℕ → List ℤ) → ℕ → List ℤ
@@ -33,21 +38,18 @@ known-frequency k = getD (0 ∷ 4 ∷ 2 ∷ 2 ∷ 1 ∷ 1 ∷ 1 ∷ 1 ∷ []) k 
 abbrev pub known-component : ℕ → ℕ
 known-component k = getD (4 ∷ 4 ∷ 2 ∷ 6 ∷ 1 ∷ 3 ∷ 5 ∷ 7 ∷ []) k 0
 
--- how often each counts for place n: as often as there are conjugates of its frequency
-abbrev pub weights : ℕ → List ℤ
-weights n =
-    getD
-    ((pos 1 ∷ pos 1 ∷ pos 2 ∷ pos 0 ∷ pos 4 ∷ pos 0 ∷ pos 0 ∷ pos 0 ∷ [])
-    ∷ (pos 1 ∷ negsuc 0 ∷ pos 0 ∷ pos 2 ∷ pos 0 ∷ pos 4 ∷ pos 0 ∷ pos 0 ∷ [])
-    ∷ (pos 1 ∷ negsuc 0 ∷ pos 0 ∷ negsuc 1 ∷ pos 0 ∷ pos 0 ∷ pos 4 ∷ pos 0 ∷ [])
-    ∷ (pos 1 ∷ pos 1 ∷ negsuc 1 ∷ pos 0 ∷ pos 0 ∷ pos 0 ∷ pos 0 ∷ pos 4 ∷ [])
-    ∷ (pos 1 ∷ pos 1 ∷ negsuc 1 ∷ pos 0 ∷ pos 0 ∷ pos 0 ∷ pos 0 ∷ negsuc 3 ∷ [])
-    ∷ (pos 1 ∷ negsuc 0 ∷ pos 0 ∷ negsuc 1 ∷ pos 0 ∷ pos 0 ∷ negsuc 3 ∷ pos 0 ∷ [])
-    ∷ (pos 1 ∷ negsuc 0 ∷ pos 0 ∷ pos 2 ∷ pos 0 ∷ negsuc 3 ∷ pos 0 ∷ pos 0 ∷ [])
-    ∷ (pos 1 ∷ pos 1 ∷ pos 2 ∷ pos 0 ∷ negsuc 3 ∷ pos 0 ∷ pos 0 ∷ pos 0 ∷ [])
-    ∷ [])
-    n []
+-- known component k of the factor of its frequency at place n
+unfoldable pub known-factor : ℕ → ℕ → ℤ
+known-factor k n = component (factor (known-frequency k) n) (known-component k)
+
+-- how many conjugates that frequency has, itself among them
+abbrev pub conjugate-count : ℕ → ℕ
+conjugate-count k = getD (1 ∷ 1 ∷ 2 ∷ 2 ∷ 4 ∷ 4 ∷ 4 ∷ 4 ∷ []) k 0
+
+-- how often known component k counts for place n: that of the factor, as often as there are conjugates
+unfoldable pub weight : ℕ → ℕ → ℤ
+weight n k = pos (conjugate-count k) *ℤ known-factor k n
 
 -- the sum of the numbers y 0 to y 7, each as often as it counts for place n
 unfoldable pub weighted : (ℕ → ℤ) → ℕ → ℤ
-weighted y n = sum (pos 0) _+ℤ_ 8 (λ k. component (weights n) k *ℤ y k)
+weighted y n = sum (pos 0) _+ℤ_ 8 (λ k. weight n k *ℤ y k)

@@ -2,11 +2,7 @@
 -- A block of d dimensions has 8^d samples, x 0 to x (8^d - 1). The base-8 digits of a sample's index are its places along the
 -- dimensions, those of an element's index its frequencies: in two dimensions sample (i,j), row i and column j, is x (8i+j), and the
 -- element at (u,v), u counting down and v across, has the index 8u+v.
-use mathlib.Core.Bool.{Bool, false, cond, _&&_, _||_}
-use mathlib.Core.List.{List, [], _∷_}
-use Prim.Native.Nat.{ℕ, zero, suc, _+_, _*_, _/_, _%_, _^_, _≤_, _<_}
-use lib.Dec.{eqb}
-use lib.IntN.{ℤ, pos, negsuc, natAbs}
+use Rattle.integers.specs.Kit.{Bool, false, cond, _&&_, _||_, List, [], _∷_, ℕ, zero, suc, _+_, _*_, _/_, _%_, _^_, _≤_, _<_, eqb, ℤ, pos, negℤ, natAbs}
 use Rattle.integers.specs.Sum.{sum}
 use Rattle.ring.specs.Element.{add, scale, integer, cosine, mul}
 
@@ -25,7 +21,7 @@ odd k = eqb (k % 2) 1
 
 -- t(k,7-n) is t(k,n) for even k, and its negative for odd k (`mirrored`): the sign of frequency k in a mirrored row
 abbrev pub mirror-sign : ℕ → ℤ
-mirror-sign k = cond (odd k) (negsuc 0) (pos 1)
+mirror-sign k = cond (odd k) (negℤ (pos 1)) (pos 1)
 
 -- by any family f of factors, f(k,n) for frequency k and place n
 
@@ -61,7 +57,7 @@ double-sum = double-sum-by factor
 abbrev pub step : (ℕ → List ℤ) → ℕ → List ℤ
 step = step-by factor
 
--- the first four terms of a step, which a factorised step makes of sums and differences of a row's elements
+-- the first four terms of a step. A factorised step applies it to the sums r_n + r_(7-n), for even k, and to the differences, for odd k
 unfoldable pub half-step : (ℕ → List ℤ) → ℕ → List ℤ
 half-step r k = sum [] add 4 (λ n. mul (r n) (factor k n))
 

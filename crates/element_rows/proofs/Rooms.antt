@@ -1,22 +1,20 @@
 -- Rows of elements: how far the operations let them grow, and arrays that are written out.
--- Assumes nothing.
-use mathlib.Core.Path.{_≡_, refl}
-use mathlib.Core.List.{List, [], _∷_}
-use Prim.Native.Nat.{ℕ, _+_, _*_, _%_, _≤_, _<_}
-use lib.IntN.{ℤ, pos, negsuc, negℤ, natAbs}
+use Rattle.integers.specs.Kit.{_≡_, refl, sym, ap₂, _∙_, List, [], _∷_, ℕ, _+_, _*_, _/_, _%_, _≤_, _<_, ℤ, pos, negsuc, negℤ, natAbs}
+use native.Mathlib.Decide.{ℕ-discrete}
+use native.Mathlib.Omega.{arith}
 use Rattle.integers.specs.Sum.{sum}
 use Rattle.integers.proofs.Magnitudes.{natAbs-neg}
 use Rattle.integers.proofs.Tables.{listed-4, listed-8}
-use Rattle.ring.specs.Element.{component, add, subtract, only, integer, cosine, mul}
+use Rattle.ring.specs.Element.{component, add, subtract, only, integer, cosine, mul, Eight}
 use Rattle.ring.specs.Maps.{part, conjugate, dot}
-use Rattle.ring.proofs.Components.{Eight, eight-add, eight-scale, eight-mul, eight-only, eight-cosine, eight-sum}
+use Rattle.ring.proofs.Components.{eight-add, eight-scale, eight-mul, eight-only, eight-cosine, eight-sum}
 use Rattle.ring.proofs.Conjugates.{conjugate-components}
 use Rattle.elements.specs.declared.Element.{Element}
 use Rattle.elements.specs.Bound.{Within}
-use Rattle.elements.specs.Buffer.{Row, Rows}
+use Rattle.elements.specs.Buffer.{Row, Rows, item}
 use Rattle.element_rows.specs.Room.{Small, Room}
-use Rattle.element_rows.specs.Angle.{index, signed}
-use Rattle.element_rows.proofs.Angles.{signed-size, integer-times, dot-is}
+use Rattle.elements.specs.Angle.{index, signed}
+use Rattle.elements.proofs.Angles.{signed-size, integer-times, dot-is}
 use Rattle.elements.proofs.Bounds.{within-le, within-nil, within-cons, within-only, within-cosine}
 use Rattle.elements.proofs.Componentwise.{within-add, within-subtract, within-sum}
 
@@ -71,15 +69,42 @@ small-integer-times {a = a} m h p =
 pub small-dot : {B : ℕ} {a : List ℤ} (m : ℕ) → 0 < m % 8 → Small B a → natAbs (dot a (cosine (pos m))) ≤ B
 small-dot {a = a} m h p = rw (← dot-is m h (eights p), signed-size (component a (index m)) m) (p .within .within (index m))
 
--- an array that is written out
+-- a sum of four, term by term
+pub add-four : {a b c d e f g h : List ℤ} → a ≡ e → b ≡ f → c ≡ g → d ≡ h → add (add (add a b) c) d ≡ add (add (add e f) g) h
+add-four p q r s = ap₂ add (ap₂ add (ap₂ add p q) r) s
 
-pub row-4 : {f : ℕ → List ℤ} {a b c d : Element} → a .components ≡ f 0 → b .components ≡ f 1 → c .components ≡ f 2 → d .components ≡ f 3
-    → Row 4 f (a ∷ b ∷ c ∷ d ∷ [])
-row-4 {f} p q r s = record { at = listed-4 {A = Element} (record { components = [] }) (λ k x. x .components ≡ f k) p q r s }
+-- rows, element by element
+
+pub row-4 : {f : ℕ → List ℤ} {l : List Element} → item l 0 ≡ f 0 → item l 1 ≡ f 1 → item l 2 ≡ f 2 → item l 3 ≡ f 3 → Row 4 f l
+row-4 {f} {l} p q r s = record { at = listed-4 {A = ℕ} 0 (λ k x. item l k ≡ f k) {a = 0} {b = 0} {c = 0} {d = 0} p q r s }
 
 pub row-8 : {f : ℕ → List ℤ} {a b c d e g h i : Element} → a .components ≡ f 0 → b .components ≡ f 1 → c .components ≡ f 2 → d .components ≡ f 3
     → e .components ≡ f 4 → g .components ≡ f 5 → h .components ≡ f 6 → i .components ≡ f 7 → Row 8 f (a ∷ b ∷ c ∷ d ∷ e ∷ g ∷ h ∷ i ∷ [])
 row-8 {f} p q r s t u v w = record { at = listed-8 {A = Element} (record { components = [] }) (λ k x. x .components ≡ f k) p q r s t u v w }
+
+-- what `join` says of the row r that it makes: e has its even frequencies, and o its odd ones
+pub joined-row : {e o r : List Element} (f : ℕ → List ℤ) → Row 4 (λ i. item r (2 * i)) e × Row 4 (λ i. item r (2 * i + 1)) o
+    → Row 4 (λ i. f (2 * i)) e → Row 4 (λ i. f (2 * i + 1)) o → Row 8 f r
+joined-row {r = r} f (E, O) F G = record { at = λ k h. go k h (ℕ-discrete (k % 2) 0) }
+  where
+    go : (k : ℕ) → k < 8 → Dec (k % 2 ≡ 0) → item r k ≡ f k
+    go k h (yes q) =
+        let i : 2 * (k / 2) ≡ k = omega arith in
+        rw i at (sym (E .at (k / 2) (omega arith)) ∙ F .at (k / 2) (omega arith))
+    go k h (no q) =
+        let i : 2 * (k / 2) + 1 ≡ k = omega arith in
+        rw i at (sym (O .at (k / 2) (omega arith)) ∙ G .at (k / 2) (omega arith))
+
+pub joined-room : {e o r : List Element} {B : ℕ} → Row 4 (λ i. item r (2 * i)) e × Row 4 (λ i. item r (2 * i + 1)) o → Room 4 B e → Room 4 B o → Room 8 B r
+joined-room {r = r} {B} (E, O) R S = record { small = λ k h. go k h (ℕ-discrete (k % 2) 0) }
+  where
+    go : (k : ℕ) → k < 8 → Dec (k % 2 ≡ 0) → Small B (item r k)
+    go k h (yes q) =
+        let i : 2 * (k / 2) ≡ k = omega arith in
+        rw i at (rw (E .at (k / 2) (omega arith)) at (R .small (k / 2) (omega arith)))
+    go k h (no q) =
+        let i : 2 * (k / 2) + 1 ≡ k = omega arith in
+        rw i at (rw (O .at (k / 2) (omega arith)) at (S .small (k / 2) (omega arith)))
 
 -- eight rows
 pub rows-8 : {f : ℕ → ℕ → List ℤ} {a b c d e g h i : List Element} → Row 8 (f 0) a → Row 8 (f 1) b → Row 8 (f 2) c → Row 8 (f 3) d → Row 8 (f 4) e
@@ -89,3 +114,6 @@ rows-8 {f} p q r s t u v w = record { at = listed-8 [] (λ k x. Row 8 (f k) x) p
 -- a row of elements that are known is as small as these
 pub row-room : {m B : ℕ} {f : ℕ → List ℤ} {l : List Element} → Row m f l → ((i : ℕ) → i < m → Small B (f i)) → Room m B l
 row-room R s = record { small = λ i h. rw (R .at i h) (s i h) }
+
+pub room-le : {m A B : ℕ} {l : List Element} → A ≤ B → Room m A l → Room m B l
+room-le h R = record { small = λ i b. small-le h (R .small i b) }

@@ -1,2 +1,1 @@
-pub mod Angle
 pub mod Room

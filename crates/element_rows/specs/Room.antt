@@ -1,9 +1,5 @@
 -- Room for the sums of a step: bounds on the elements of a row.
-use mathlib.Core.Path.{_≡_}
-use mathlib.Core.List.{List}
-use Prim.Native.Nat.{ℕ, _<_}
-use lib.IntN.{ℤ}
-use lib.ListN.{length}
+use Rattle.integers.specs.Kit.{_≡_, List, ℕ, _<_, ℤ, length}
 use Rattle.elements.specs.declared.Element.{Element}
 use Rattle.elements.specs.Bound.{Within}
 use Rattle.elements.specs.Buffer.{item}

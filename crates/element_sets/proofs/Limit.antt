@@ -1,16 +1,14 @@
--- The test of cause 4 as the code makes it, and that the accepted sets are those in which it finds no element.
--- Assumes nothing.
-use mathlib.Core.Path.{_≡_, refl}
-use mathlib.Core.Bool.{true, false}
-use mathlib.Core.List.{List}
-use Prim.Native.Nat.{ℕ, _*_, _≤_, _<_}
+-- The test of cause 4 as the code makes it, and that the accepted sets are those in which it finds no element; a block's is one.
+use Rattle.integers.specs.Kit.{_≡_, refl, true, false, List, ℕ, suc, _*_, _≤_, _<_, ℤ, length}
 use native.Mathlib.Nat.{le-trans}
-use lib.IntN.{ℤ}
-use lib.ListN.{length}
 use borrow.Author.Tests.{lt-ltb, le-ltb, ltb-false}
+use Rattle.limits.specs.Limits.{places-in, sample-limit, magnitudes-limit-in}
 use Rattle.ring.specs.Element.{magnitudes}
+use Rattle.dct.specs.Transform.{factor}
 use Rattle.elements.specs.Buffer.{element-at}
+use Rattle.blocks.specs.Blocks.{AllInRange, elements-of}
 use Rattle.element_sets.specs.Sets.{above-limit, AcceptedSet}
+use Rattle.blocks.proofs.Blocks.{length-elements, magnitudes-of}
 
 -- r is the sum that the code finds
 module _ (L : ℕ) (e : List ℤ) (p : ℕ) {r : ℕ} (f : r ≡ magnitudes (element-at e p)) where
@@ -30,3 +28,7 @@ passed {n} {L} l none = record { size = l; in-limit = λ p h. ltb-false L _ (non
 -- a set within a limit is within a larger one
 pub wider : {n L M : ℕ} {e : List ℤ} → L ≤ M → AcceptedSet n L e → AcceptedSet n M e
 wider l A = record { size = A .size; in-limit = λ p h. le-trans (A .in-limit p h) l }
+
+-- a block's set, "the 64 elements that forward writes for a block in range", is an accepted set
+pub block-set : (d : ℕ) (x : List ℤ) → AllInRange (suc d) x → AcceptedSet (places-in (suc d)) (magnitudes-limit-in sample-limit (suc d)) (elements-of (suc d) x)
+block-set d x range = record { size = length-elements factor (suc d) x; in-limit = magnitudes-of d x range }

@@ -1,25 +1,16 @@
--- Sets with all components negated: which elements they have, that magnitudes stay, and that a block with all samples negated has such a set.
--- Assumes nothing.
-use mathlib.Core.Path.{_≡_, sym, ap, _∙_}
-use mathlib.Core.List.{List}
-use Prim.Native.Nat.{ℕ, _+_, _*_, _/_, _%_, _^_, _≤_, _<_}
+-- Sets with all components negated: which elements they have, and that magnitudes stay.
+use Rattle.integers.specs.Kit.{_≡_, _∙_, List, ℕ, _+_, _*_, _/_, _%_, _^_, _≤_, _<_, ℤ, pos, negsuc, negℤ, natAbs, getD}
 use native.Mathlib.Nat.{one-mul, le-trans, lt-of-le-of-lt}
 use native.Mathlib.Omega.{arith}
-use lib.IntN.{ℤ, pos, negsuc, negℤ, natAbs}
-use lib.ListN.{getD}
 use mir.Syntax.{w32}
 use mir.Val.{SFits}
-use Rattle.integers.proofs.Integer.{minus-one-*ℤ}
 use Rattle.integers.proofs.Magnitudes.{natAbs-neg, small-fits}
-use Rattle.limits.specs.Limits.{places-in, components-in}
-use Rattle.ring.specs.Element.{component, negate}
+use Rattle.ring.specs.Element.{negate}
 use Rattle.ring.proofs.Components.{length-scale, component-negate, negate-table}
 use Rattle.ring.proofs.Magnitude.{component-le, magnitudes-scale}
-use Rattle.dct.specs.Transform.{factor, element}
-use Rattle.dct.proofs.Factors.{element-multiple}
 use Rattle.elements.specs.Buffer.{element-at}
 use Rattle.elements.proofs.Buffers.{number-at}
-use Rattle.element_sets.specs.Sets.{sample, elements-by, elements-of, AcceptedSet}
+use Rattle.element_sets.specs.Sets.{AcceptedSet}
 
 -- element p of a set
 pub element-negated : (e : List ℤ) (p : ℕ) → element-at (negate e) p ≡ negate (element-at e p)
@@ -39,12 +30,3 @@ pub negated-fits : {n L : ℕ} {e : List ℤ} → AcceptedSet n L e → L < 2 ^ 
 negated-fits {n} {L} {e} S small i h =
     let size : natAbs (getD e i (pos 0)) ≤ L = le-trans (rw (number-at e i) at (component-le (element-at e (i / 8)) (i % 8))) (S .in-limit (i / 8) (omega arith)) in
     rw (component-negate e i) (small-fits w32 (negℤ (getD e i (pos 0))) (rw (natAbs-neg (getD e i (pos 0))) (lt-of-le-of-lt size small)))
-
--- the elements of a block with all samples negated
-pub elements-negated : (d : ℕ) (x y : List ℤ) → ((q : ℕ) → q < places-in d → sample y q ≡ negℤ (sample x q)) → elements-of d y ≡ negate (elements-of d x)
-unfolding elements-by
-elements-negated d x y opposite =
-    negate-table (components-in d) _ _ (λ i h.
-    ap (λ u. component u (i % 8))
-    (element-multiple factor d (negsuc 0) (sample x) (sample y) (λ q l. opposite q l ∙ sym (minus-one-*ℤ (sample x q))) (i / 8))
-    ∙ component-negate (element d (sample x) (i / 8)) (i % 8))

@@ -2,9 +2,7 @@
 // limit, by 01's cause 4; what forward writes for a block in range is within it (`block-set`).
 //
 // `first_above` finds the element that cause 4 names. The sums are u64: eight magnitudes of 2^31 each do not fit 32 bits.
-ghost use mathlib.Core.Path.{_≡_};
-ghost use Prim.Native.Nat.{_*_};
-ghost use lib.ListN.{length};
+ghost use Rattle.integers.specs.Kit.{_≡_, _*_, length};
 ghost use Rattle.integers.specs.Search.{first};
 ghost use Rattle.ring.specs.Element as ring;
 ghost use Rattle.element_sets.specs.Sets.{above-limit};

@@ -1,13 +1,6 @@
 -- What a step over a row is summed of, part by part, and the room for it. A half of a row has the frequencies g 0 to g 3.
--- Assumes nothing.
-use mathlib.Core.Path.{_≡_, ap, ap₂, _∙_}
-use mathlib.Core.List.{List, []}
-use Prim.Native.Nat.{ℕ, suc, _+_, _*_, _<_}
-use native.Mathlib.Nat.{zero-lt-suc}
+use Rattle.integers.specs.Kit.{_≡_, ap, ap₂, _∙_, List, [], _∷_, ℕ, zero, suc, _+_, _*_, _<_, lit≤, ℤ, pos, length}
 use native.Mathlib.Omega.{arith}
-use lib.Dec.{lit≤}
-use lib.IntN.{ℤ, pos}
-use Rattle.integers.specs.Sum.{sum}
 use Rattle.integers.proofs.Sums.{sum-cong}
 use Rattle.ring.specs.Element.{add, cosine, mul}
 use Rattle.ring.specs.Maps.{part}
@@ -16,71 +9,56 @@ use Rattle.dct.proofs.Factors.{step-cong}
 use Rattle.dct.proofs.Parts.{unit-cosine, by-parts}
 use Rattle.elements.specs.declared.Element.{Element}
 use Rattle.elements.specs.Bound.{bit-limit, headroom}
-use Rattle.elements.specs.Buffer.{Row, item}
-use Rattle.element_rows.specs.Room.{Small, Room}
-use Rattle.element_rows.proofs.Rooms.{small-le, small-cosine, small-part, small-sum, row-room}
+use Rattle.elements.specs.Buffer.{Row, item, row}
+use Rattle.element_rows.specs.Room.{Room}
+use Rattle.element_rows.proofs.Rooms.{small-le, small-cosine, small-part, add-four, joined-row, row-room}
 use Rattle.integer_step.proofs.Halves.{small-step}
-use Rattle.element_steps.specs.Class.{Counts}
+use Rattle.element_steps.specs.Class.{OnlyComponents, product, summed}
 
-abbrev pub even-place : ℕ → ℕ
-even-place i = 2 * i
+-- the step of a row of whole numbers leaves room for the product, and the product for three sums
+module _ {a e : List Element} (R : Room 8 (bit-limit 23) a) (g : ℕ → ℕ) (E : Row 4 (λ i. step (λ n. part (item a n) 0) (g i)) e) where
+  pub room-step : Room 4 headroom e
+  room-step = row-room E (λ i h. small-le (lit≤ tt) (small-step _ (g i) (λ n l. small-part 0 (R .small n l))))
 
-abbrev pub odd-place : ℕ → ℕ
-odd-place i = 2 * i + 1
+  pub made-product : (k : ℕ) {t : List Element} → Row 4 (λ i. mul (cosine (pos k)) (item e i)) t → Row 4 (λ i. product a k (g i)) t × Room 4 (bit-limit 28) t
+  made-product k {t} T =
+      let P : Row 4 (λ i. product a k (g i)) t = record { at = λ i h. T .at i h ∙ ap (mul (cosine (pos k))) (E .at i h) } in
+      (P, row-room P (λ i h. small-le (lit≤ tt) (small-cosine (pos k) (small-step _ (g i) (λ n l. small-part 0 (R .small n l))))))
 
--- the step of a row of whole numbers leaves room for the product
-pub room-step : {a e : List Element} → Room 8 (bit-limit 23) a → (g : ℕ → ℕ) → Row 4 (λ i. step (λ n. part (item a n) 0) (g i)) e → Room 4 headroom e
-room-step R g E = row-room E (λ i h. small-le (lit≤ tt) (small-step _ (g i) (λ n l. small-part 0 (R .small n l))))
+-- the sums of two products and of four
 
-module _ {x : List Element} (R : Room 8 (bit-limit 23) x) where
-  -- a has the whole numbers at component k
-  abbrev pub Part : ℕ → List Element → Type 0
-  Part k a = Row 8 (λ n. part (item x n) k) a
+pub sum-two : {p q : ℕ → List ℤ} {a b r : List Element} → Row 4 p a → Row 4 q b → Row 4 (λ n. add (item a n) (item b n)) r → Row 4 (λ n. add (p n) (q n)) r
+sum-two A B S = record { at = λ i h. S .at i h ∙ ap₂ add (A .at i h) (B .at i h) }
 
-  pub room-part : (k : ℕ) {a : List Element} → Part k a → Room 8 (bit-limit 23) a
-  room-part k A = row-room A (λ n h. small-part k (R .small n h))
+pub sum-four : {p q s t : ℕ → List ℤ} {a b c d r : List Element} → Row 4 p a → Row 4 q b → Row 4 s c → Row 4 t d
+    → Row 4 (λ n. add (add (add (item a n) (item b n)) (item c n)) (item d n)) r → Row 4 (λ n. add (add (add (p n) (q n)) (s n)) (t n)) r
+sum-four A B C D S = record { at = λ i h. S .at i h ∙ add-four (A .at i h) (B .at i h) (C .at i h) (D .at i h) }
 
-  module _ (k : ℕ → ℕ) (g : ℕ → ℕ) where
-    -- c_k times the step of these numbers, for part j
-    abbrev products : ℕ → ℕ → List ℤ
-    products j i = mul (cosine (pos (k j))) (step (λ n. part (item x n) (k j)) (g i))
+-- the rows have the whole numbers at the components k 0, k 1, ... of x
+pub record Parts (x : List Element) (k : ℕ → ℕ) (rows : List (List Element)) : Type 0 where
+  pub at : (j : ℕ) → j < length rows → Row 8 (λ n. part (item x n) (k j)) (row rows j)
 
-    small-products : (j i : ℕ) → Small (bit-limit 28) (products j i)
-    small-products j i = small-le (lit≤ tt) (small-cosine (pos (k j)) (small-step _ (g i) (λ n h. small-part (k j) (R .small n h))))
+module _ {x : List Element} where
+  pub no-parts : {k : ℕ → ℕ} → Parts x k []
+  no-parts = record { at = λ j h. absurd (omega arith) }
 
-    -- t is the product that is made of the numbers a of part j
-    abbrev pub Product : List Element → List Element → ℕ → Type 0
-    Product a t j = Row 4 (λ i. mul (cosine (pos (k j))) (step (λ n. part (item a n) 0) (g i))) t
+  pub part-more : {k : ℕ → ℕ} {a : List Element} {rows : List (List Element)} → Row 8 (λ n. part (item x n) (k 0)) a → Parts x (λ j. k (suc j)) rows → Parts x k (a ∷ rows)
+  part-more {k} {a} {rows} A P = record { at = go }
+    where
+      go : (j : ℕ) → j < length (a ∷ rows) → Row 8 (λ n. part (item x n) (k j)) (row (a ∷ rows) j)
+      go zero h = A
+      go (suc j) h = P .at j (omega arith)
 
-    product : (j : ℕ) {a t : List Element} → Part (k j) a → Product a t j → (i : ℕ) → i < 4 → item t i ≡ products j i
-    product j {a} A T i h =
-        T .at i h ∙ ap (mul (cosine (pos (k j)))) (step-cong factor (λ n. part (item a n) 0) (λ n. part (item x n) (k j)) (g i) (λ n l. ap (λ b. part b 0) (A .at n l)))
+  -- the sum over all of them is the step, where each is made of one of c_1 to c_7
+  module _ {k : ℕ → ℕ} {rows : List (List Element)} (C : OnlyComponents (length rows) k x) (P : Parts x k rows) (some : (j : ℕ) → j < length rows → (0 < k j) × (k j < 8)) where
+    all-parts : (f : ℕ) → summed k rows f ≡ step (item x) f
+    all-parts f =
+        sum-cong [] add (length rows) _ _ (λ j b. ap₂ mul (unit-cosine (k j) (some j b .0) (some j b .1))
+        (step-cong factor (λ n. part (item (row rows j) n) 0) (λ n. part (item x n) (k j)) f (λ n l. ap (λ a. part a 0) (P .at j b .at n l))))
+        ∙ by-parts factor k (length rows) (item x) (C .counts) f
 
-    pub room-product : (j : ℕ) {a t : List Element} → Part (k j) a → Product a t j → Room 4 headroom t
-    room-product j A T = record { small = λ i h. rw (product j A T i h) (small-le (lit≤ tt) (small-products j i)) }
-
-    -- the sums of the products of the parts 0 to m - 1
-    abbrev pub Summed : ℕ → List Element → Type 0
-    Summed m l = Row 4 (λ i. sum [] add m (λ j. products j i)) l
-
-    pub sum-one : {a t : List Element} → Part (k 0) a → Product a t 0 → Summed 1 t
-    unfolding sum
-    sum-one A T = record { at = product 0 A T }
-
-    pub sum-more : (m : ℕ) {l a t r : List Element} → Summed m l → Part (k m) a → Product a t m → Row 4 (λ n. add (item l n) (item t n)) r → Summed (suc m) r
-    unfolding sum
-    sum-more m L A T S = record { at = λ i h. S .at i h ∙ ap₂ add (L .at i h) (product m A T i h) }
-
-    -- there is room for three products, and one more to add
-    pub room-sum : (m : ℕ) → m < 3 → {l : List Element} → Summed (suc m) l → Room 4 headroom l
-    room-sum m h L =
-        row-room L (λ i b. small-le (omega arith) (small-sum (suc m) (bit-limit 28) (λ j. products j i) (zero-lt-suc m) (λ j c. small-products j i)))
-
-    -- all of them are the step, where each is made of one of c_1 to c_7
-    pub all-parts : (m : ℕ) → ((j : ℕ) → j < m → (0 < k j) × (k j < 8)) → Counts m k x → {l : List Element} → Summed m l → Row 4 (λ i. step (item x) (g i)) l
-    all-parts m some C L = record {
-      at = λ i h.
-          L .at i h
-          ∙ sum-cong [] add m _ _ (λ j b. ap (λ c. mul c (step (λ n. part (item x n) (k j)) (g i))) (unit-cosine (k j) (some j b .0) (some j b .1)))
-          ∙ by-parts factor k m (item x) (C .counts) (g i);
-    }
+    -- by halves, as `join` takes them
+    pub joined-parts : {e o r : List Element} → Row 4 (λ i. item r (2 * i)) e × Row 4 (λ i. item r (2 * i + 1)) o
+        → Row 4 (λ i. summed k rows (2 * i)) e → Row 4 (λ i. summed k rows (2 * i + 1)) o → Row 8 (step (item x)) r
+    joined-parts J E O =
+        joined-row (step (item x)) J (record { at = λ i h. E .at i h ∙ all-parts (2 * i) }) (record { at = λ i h. O .at i h ∙ all-parts (2 * i + 1) })

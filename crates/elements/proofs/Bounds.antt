@@ -1,15 +1,12 @@
 -- Bounds on components: how far a product with c_m lets them grow, which is to twice the bound, and what they give the code's own sums.
 -- `Componentwise` has sums and differences, which add the bounds.
--- Assumes nothing.
-use mathlib.Core.Path.{_≡_}
-use mathlib.Core.Bool.{Bool, true, false, cond}
-use mathlib.Core.List.{List, [], _∷_}
-use Prim.Native.Nat.{ℕ, zero, suc, _+_, _-_, _%_, _≤_, _<_, zero-le}
+use Rattle.integers.specs.Kit.{_≡_, _∙_, Bool, true, false, cond, List, [], _∷_, ℕ, zero, suc, _+_, _-_, _%_, _≤_, _<_, T, eqb, ltb, leb, lit<, ℤ, pos, _+ℤ_, _-ℤ_, negℤ, natAbs}
+use Prim.Native.Nat.{zero-le}
 use native.Mathlib.Nat.{le-refl, le-trans}
 use native.Mathlib.Decide.{decLt}
 use native.Mathlib.Omega.{arith}
-use lib.Dec.{T, eqb, ltb, leb, leb→le, lit<}
-use lib.IntN.{ℤ, pos, _-ℤ_, negℤ, natAbs}
+use lib.Dec.{leb→le}
+use lib.IntN.{+ℤ-idl}
 use lib.ListN.{List·getD-eq-default}
 use mir.Syntax.{w32}
 use mir.Val.{SFits}
@@ -17,12 +14,12 @@ use Rattle.integers.specs.Sum.{sum}
 use Rattle.integers.specs.Table.{table}
 use Rattle.integers.specs.Test.{every}
 use Rattle.integers.proofs.Signed.{in32, kept, op-fits, op-kept}
-use Rattle.integers.proofs.Magnitudes.{natAbs-neg, natAbs-sub}
+use Rattle.integers.proofs.Magnitudes.{natAbs-add, natAbs-neg, natAbs-sub}
 use Rattle.integers.proofs.Tables.{length-table, getD-table}
 use Rattle.integers.proofs.Tests.{every-at}
-use Rattle.ring.specs.Element.{component, only, full-turn, cosine, basis-product, mul}
+use Rattle.ring.specs.Element.{component, only, full-turn, cosine, basis-product, mul, Eight}
 use Rattle.ring.proofs.Product.{mul-right}
-use Rattle.ring.proofs.Components.{Eight, eight-cosine, eight-mul, form-component, by-components}
+use Rattle.ring.proofs.Components.{eight-cosine, eight-mul, form-component, by-components}
 use Rattle.ring.proofs.Magnitude.{form-bound}
 use Rattle.elements.specs.Bound.{Within, headroom}
 use Rattle.elements.specs.Continued.{continued}
@@ -90,16 +87,20 @@ module _ (z : ℤ) (l : natAbs z ≤ headroom) where
   pub negative-fits : SFits w32 (pos 0 -ℤ in32 z)
   negative-fits = op-fits _-ℤ_ natAbs-sub w32 {B = headroom} (lit< tt) (pos 0) z zero-le l
 
-  pub negative-kept : {r : ℤ} → r ≡ pos 0 -ℤ in32 z → in32 r ≡ pos 0 -ℤ z
-  negative-kept = op-kept _-ℤ_ natAbs-sub w32 {B = headroom} (lit< tt) (pos 0) z zero-le l
+  pub negative-kept : {r : ℤ} → r ≡ pos 0 -ℤ in32 z → in32 r ≡ negℤ z
+  negative-kept e = op-kept _-ℤ_ natAbs-sub w32 {B = headroom} (lit< tt) (pos 0) z zero-le l e ∙ +ℤ-idl (negℤ z)
 
--- the sum or the difference of two components
+-- the sum of two
+module _ (x y : ℤ) (l : natAbs x ≤ headroom) (m : natAbs y ≤ headroom) where
+  pub sum-fits : SFits w32 (in32 x +ℤ in32 y)
+  sum-fits = op-fits _+ℤ_ natAbs-add w32 {B = headroom} (lit< tt) x y l m
 
-module _ (op : ℤ → ℤ → ℤ) (small : (x y : ℤ) → natAbs (op x y) ≤ natAbs x + natAbs y)
-    {a b : List ℤ} (p : Within headroom a) (q : Within headroom b) (i j : ℕ) where
-  pub components-fit : SFits w32 (op (in32 (component a i)) (in32 (component b j)))
-  components-fit = op-fits op small w32 {B = headroom} (lit< tt) (component a i) (component b j) (p .within i) (q .within j)
+  pub sum-kept : {r : ℤ} → r ≡ in32 x +ℤ in32 y → in32 r ≡ x +ℤ y
+  sum-kept = op-kept _+ℤ_ natAbs-add w32 {B = headroom} (lit< tt) x y l m
 
-  pub components-kept : {r : ℤ} → r ≡ op (in32 (component a i)) (in32 (component b j))
-      → in32 r ≡ op (component a i) (component b j)
-  components-kept e = op-kept op small w32 {B = headroom} (lit< tt) (component a i) (component b j) (p .within i) (q .within j) e
+module _ {a b : List ℤ} (p : Within headroom a) (q : Within headroom b) (i : ℕ) where
+  pub components-fit : SFits w32 (in32 (component a i) +ℤ in32 (component b i))
+  components-fit = sum-fits (component a i) (component b i) (p .within i) (q .within i)
+
+  pub components-kept : {r : ℤ} → r ≡ in32 (component a i) +ℤ in32 (component b i) → in32 r ≡ component a i +ℤ component b i
+  components-kept = sum-kept (component a i) (component b i) (p .within i) (q .within i)

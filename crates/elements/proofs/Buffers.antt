@@ -1,21 +1,16 @@
 -- Storing an element in a buffer, as a loop over its components does it; and element after element.
--- Assumes nothing.
-use mathlib.Core.Path.{_≡_, refl, sym, ap, _∙_}
-use mathlib.Core.Bool.{cond}
-use mathlib.Core.List.{List}
-use Prim.Native.Nat.{ℕ, _+_, _*_, _/_, _%_, _≤_, _<_, zero-le}
+use Rattle.integers.specs.Kit.{_≡_, refl, sym, ap, _∙_, cond, List, ℕ, _+_, _*_, _/_, _%_, _≤_, _<_, eqb, ℤ, pos, length, getD, set}
+use Prim.Native.Nat.{zero-le}
 use native.Mathlib.Nat.{not-suc-le-zero}
 use native.Mathlib.Decide.{ℕ-discrete}
 use native.Mathlib.Omega.{arith}
-use lib.Dec.{eqb}
-use lib.IntN.{ℤ, pos}
-use lib.ListN.{length, getD, set, length-set}
+use lib.ListN.{length-set}
 use lib.Seq.{getD-set-same, getD-set-other}
 use borrow.Author.Tests.{eq-eqb, ne-eqb}
 use Rattle.integers.specs.Table.{table}
 use Rattle.integers.proofs.Tables.{is-table, length-table, getD-table}
-use Rattle.ring.specs.Element.{component}
-use Rattle.ring.proofs.Components.{Eight, by-components}
+use Rattle.ring.specs.Element.{component, Eight}
+use Rattle.ring.proofs.Components.{by-components}
 use Rattle.elements.specs.Buffer.{element-at, put}
 
 -- number i of a buffer is a component of one of its elements

@@ -1,49 +1,35 @@
--- Sums and differences of elements, and an element of one component, as the code makes them: component by component.
--- Assumes nothing.
-use mathlib.Core.Path.{_≡_, ap, _∙_}
-use mathlib.Core.Bool.{cond}
-use mathlib.Core.List.{List, []}
-use Prim.Native.Nat.{ℕ, zero, suc, _+_, _*_, _≤_, _<_, zero-le}
+-- Sums and negatives of elements, and an element of one component, as the code makes them: component by component.
+use Rattle.integers.specs.Kit.{_≡_, _∙_, cond, List, [], ℕ, zero, suc, _+_, _*_, _<_, eqb, ℤ, pos, negsuc, _+ℤ_, negℤ, set, replicate}
+use Prim.Native.Nat.{zero-le}
 use native.Mathlib.Nat.{le-trans, add-le-add, suc-mul}
 use native.Mathlib.Decide.{ℕ-discrete}
 use native.Mathlib.Omega.{arith}
-use lib.Dec.{eqb}
-use lib.IntN.{ℤ, pos, negsuc, _+ℤ_, _-ℤ_, natAbs}
-use lib.ListN.{set, length-set, replicate, getD-replicate}
+use lib.ListN.{length-set, getD-replicate}
 use lib.Seq.{getD-set-same, getD-set-other}
 use borrow.Author.Tests.{eq-eqb, ne-eqb}
 use Rattle.integers.specs.Sum.{sum}
 use Rattle.integers.specs.Table.{table}
-use Rattle.integers.proofs.Magnitudes.{natAbs-add, natAbs-sub}
+use Rattle.integers.proofs.Magnitudes.{natAbs-add, natAbs-neg}
 use Rattle.integers.proofs.Tables.{is-table}
-use Rattle.ring.specs.Element.{component, add, negate, subtract, only}
-use Rattle.ring.proofs.Components.{Eight, eight-add, eight-scale, component-add, component-negate}
+use Rattle.ring.specs.Element.{component, add, negate, subtract, only, Eight}
+use Rattle.ring.proofs.Components.{eight-add, eight-scale, component-add, component-negate}
 use Rattle.elements.specs.Bound.{Within}
 
-component-subtract : (a b : List ℤ) (k : ℕ) → component (subtract a b) k ≡ component a k -ℤ component b k
-component-subtract a b k =
-    component-add a (negate b) k ∙ ap (λ z. component a k +ℤ z) (component-negate b k)
-
--- an operation that goes by components, and how far it lets them grow
-module _ (of : List ℤ → List ℤ → List ℤ) (op : ℤ → ℤ → ℤ) (by : (a b : List ℤ) (k : ℕ) → component (of a b) k ≡ op (component a k) (component b k)) where
-  as-table : (a b : List ℤ) → Eight (of a b) → of a b ≡ table 8 (λ k. op (component a k) (component b k))
-  as-table a b e = is-table (pos 0) (of a b) 8 _ (e .eight) (λ k h. by a b k)
-
-  grows : ((x y : ℤ) → natAbs (op x y) ≤ natAbs x + natAbs y) → {A B : ℕ} {a b : List ℤ} → Within A a → Within B b → Within (A + B) (of a b)
-  grows small {a = a} {b = b} p q =
-      record { within = λ k. rw (by a b k) (le-trans (small (component a k) (component b k)) (add-le-add (p .within k) (q .within k))) }
-
 pub add-table : {a b : List ℤ} → Eight a → Eight b → add a b ≡ table 8 (λ k. component a k +ℤ component b k)
-add-table {a} {b} p q = as-table add _+ℤ_ component-add a b (eight-add p q)
+add-table {a} {b} p q = is-table (pos 0) (add a b) 8 _ (eight-add p q .eight) (λ k h. component-add a b k)
 
-pub subtract-table : {a b : List ℤ} → Eight a → Eight b → subtract a b ≡ table 8 (λ k. component a k -ℤ component b k)
-subtract-table {a} {b} p q = as-table subtract _-ℤ_ component-subtract a b (eight-add p (eight-scale (negsuc 0) q))
+pub negate-table : {a : List ℤ} → Eight a → negate a ≡ table 8 (λ k. negℤ (component a k))
+negate-table {a} p = is-table (pos 0) (negate a) 8 _ (eight-scale (negsuc 0) p .eight) (λ k h. component-negate a k)
 
 pub within-add : {A B : ℕ} {a b : List ℤ} → Within A a → Within B b → Within (A + B) (add a b)
-within-add = grows add _+ℤ_ component-add natAbs-add
+within-add {a = a} {b = b} p q =
+    record { within = λ k. rw (component-add a b k) (le-trans (natAbs-add (component a k) (component b k)) (add-le-add (p .within k) (q .within k))) }
+
+pub within-negate : {B : ℕ} {a : List ℤ} → Within B a → Within B (negate a)
+within-negate {a = a} p = record { within = λ k. rw (component-negate a k, natAbs-neg (component a k)) (p .within k) }
 
 pub within-subtract : {A B : ℕ} {a b : List ℤ} → Within A a → Within B b → Within (A + B) (subtract a b)
-within-subtract = grows subtract _-ℤ_ component-subtract natAbs-sub
+within-subtract p q = within-add p (within-negate q)
 
 pub within-sum : (n B : ℕ) (f : ℕ → List ℤ) → ((k : ℕ) → k < n → Within B (f k)) → Within (n * B) (sum [] add n f)
 unfolding sum

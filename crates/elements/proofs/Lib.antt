@@ -3,3 +3,4 @@ pub mod Componentwise
 pub mod Products
 pub mod Bounds
 pub mod Buffers
+pub mod Angles

@@ -1,21 +1,16 @@
 -- Multiplying by c_k through the continued components.
--- Assumes nothing.
-use mathlib.Core.Path.{_≡_}
-use mathlib.Core.Bool.{Bool}
-use mathlib.Core.List.{List}
-use Prim.Native.Nat.{ℕ, _+_, _-_, _≤_, _<_}
+use Rattle.integers.specs.Kit.{_≡_, Bool, List, ℕ, _+_, _-_, _≤_, _<_, T, ltb, ℤ, pos, _+ℤ_, negℤ}
 use native.Mathlib.Omega.{arith}
-use lib.Dec.{T, ltb}
-use lib.IntN.{ℤ, pos, _+ℤ_, negℤ}
 use borrow.Author.Tests.{lt-ltb, le-ltb}
 use Rattle.integers.specs.Table.{table}
-use Rattle.integers.specs.Test.{eqZ}
+use Rattle.integers.specs.Test.{eqZ, every₃}
 use Rattle.integers.proofs.Tables.{is-table}
-use Rattle.integers.proofs.Tests.{every₃, every₃-at, eqZ→≡}
-use Rattle.ring.specs.Element.{component, only, cosine, basis-product, mul}
-use Rattle.ring.proofs.Linear.{LinearForm, linear-self}
+use Rattle.integers.proofs.Tests.{every₃-at, eqZ→≡}
+use Rattle.ring.specs.Element.{component, only, cosine, basis-product, mul, Eight}
+use Rattle.ring.specs.Maps.{LinearForm}
+use Rattle.ring.proofs.Linear.{linear-self}
 use Rattle.ring.proofs.Product.{mul-right}
-use Rattle.ring.proofs.Components.{Eight, eight-cosine, eight-mul, form-component, linear-same}
+use Rattle.ring.proofs.Components.{eight-cosine, eight-mul, form-component, linear-same}
 use Rattle.ring.proofs.Forms.{form-plus, form-neg, form-cond}
 use Rattle.elements.specs.Continued.{continued}
 

@@ -1,7 +1,5 @@
 -- Bounds under which the operations on elements, whose components 01 has in signed 32-bit numbers, do not wrap.
-use mathlib.Core.List.{List}
-use Prim.Native.Nat.{ℕ, _-_, _^_, _≤_}
-use lib.IntN.{ℤ, natAbs}
+use Rattle.integers.specs.Kit.{List, ℕ, _-_, _^_, _≤_, ℤ, natAbs}
 use Rattle.ring.specs.Element.{component}
 
 -- no component's magnitude is above B

@@ -1,11 +1,5 @@
 -- Elements in a buffer of numbers, in an array of records, and in eight rows of eight (01, "Elements").
-use mathlib.Core.Path.{_≡_}
-use mathlib.Core.Bool.{cond}
-use mathlib.Core.List.{List, []}
-use Prim.Native.Nat.{ℕ, _+_, _*_, _/_, _%_, _<_}
-use lib.Dec.{eqb}
-use lib.IntN.{ℤ, pos}
-use lib.ListN.{length, getD}
+use Rattle.integers.specs.Kit.{_≡_, cond, List, [], ℕ, _+_, _*_, _/_, _%_, _<_, eqb, ℤ, pos, length, getD}
 use Rattle.integers.specs.Table.{table}
 use Rattle.ring.specs.Element.{component}
 use Rattle.elements.specs.declared.Element.{Element}

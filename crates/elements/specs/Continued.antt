@@ -1,10 +1,6 @@
 -- How the code multiplies by c_k (01, the rules of the cosines). Component i of the product with c_k is u_(i-k) + u_(i+k), if u is continued
 -- as the cosines are: u_(-m) = u_m, u_8 = 0 and u_(16-m) = -u_m. The indices run from -7 to 14.
-use mathlib.Core.Bool.{cond}
-use mathlib.Core.List.{List}
-use Prim.Native.Nat.{ℕ, _-_}
-use lib.Dec.{ltb}
-use lib.IntN.{ℤ, negℤ}
+use Rattle.integers.specs.Kit.{cond, List, ℕ, _-_, ltb, ℤ, negℤ}
 use Rattle.ring.specs.Element.{component}
 
 -- u_(j-7), for j from 0 to 21

@@ -1,3 +1,4 @@
+pub mod Angle
 pub mod Bound
 pub mod Buffer
 pub mod Continued

@@ -1,13 +1,10 @@
 -- The order of floats is that of the numbers that they are made of.
--- Assumes nothing.
-use mathlib.Core.Path.{_≡_, refl, sym, ap, ap₂, _∙_}
-use mathlib.Core.Bool.{Bool, true, false, _||_, Bool·beq}
-use Prim.Native.Nat.{ℕ, suc, _+_, _*_, _^_, _≤_, _<_}
+use Rattle.integers.specs.Kit.{_≡_, refl, sym, ap, ap₂, _∙_, Bool, true, false, _||_, ℕ, suc, _+_, _*_, _^_, _≤_, _<_, T, ltb, eqb, ℤ, pos, negsuc, natAbs}
+use mathlib.Core.Bool.{Bool·beq}
 use native.Mathlib.Nat.{mul-assoc, mul-comm, mul-left-comm, mul-pos, zero-mul, add-mul, mul-lt-mul-of-pos-right, mul-le-mul-right}
 use native.Mathlib.Decide.{decLt}
 use native.Mathlib.Omega.{arith}
-use lib.Dec.{T, ltb, eqb, eqb-refl, leb·suc-suc}
-use lib.IntN.{ℤ, pos, negsuc, natAbs}
+use lib.Dec.{eqb-refl, leb·suc-suc}
 use lib.Ieee.{Float, nan, inf, fin, binary32, up, down, below, level, lt, eq, le, low}
 use lib.Ieee.Exact.{HasValue}
 use lib.Ieee.Fits.{down-pos}
@@ -16,8 +13,8 @@ use lib.Pow.{pow-pos}
 use lib.Signed.{ltZ}
 use mir.Facts.{yes-and}
 use borrow.Author.Tests.{lt-ltb, le-ltb, ltb-false}
-use Rattle.floats.specs.Fraction.{negative, fraction}
-use Rattle.floats.proofs.Fractions.{exact-limit, exact}
+use Rattle.floats.specs.Fraction.{negative, fraction, exact-limit}
+use Rattle.floats.proofs.Fractions.{exact}
 
 -- a comparison of numbers, both of them times c
 scaled : (a b c : ℕ) → 0 < c → ltb (a * c) (b * c) ≡ ltb a b

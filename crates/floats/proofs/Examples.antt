@@ -1,10 +1,6 @@
 -- Examples, computed from the definitions: the bits of the floats of 0, 1, -1, 8, -237 and both limits; and that zero is plus zero.
--- Assumes nothing.
-use mathlib.Core.Path.{_≡_, refl}
-use mathlib.Core.List.{List, [], _∷_}
-use Prim.Native.Nat.{ℕ}
+use Rattle.integers.specs.Kit.{_≡_, refl, List, [], _∷_, ℕ, ℤ, pos, negsuc}
 use lib.Ieee.{Float, binary32, round, toBits}
-use lib.IntN.{ℤ, pos, negsuc}
 use Rattle.floats.specs.Fraction.{fraction, coefficient-float, mean-grey, plus-zero}
 
 -- the bits of the floats that f makes of these numbers

@@ -1,12 +1,8 @@
 -- A number over a power of two as a float: it is exact, and one division makes it.
--- Assumes nothing.
-use mathlib.Core.Path.{_≡_, refl, sym, ap, _∙_}
-use mathlib.Core.Bool.{Bool, true, false}
-use Prim.Native.Nat.{ℕ, suc, _+_, _-_, _*_, _^_, _≤_, _<_}
+use Rattle.integers.specs.Kit.{_≡_, refl, sym, ap, _∙_, Bool, true, false, ℕ, suc, _+_, _-_, _*_, _^_, _≤_, _<_, T, lit<, ℤ, pos, negsuc, natAbs}
 use native.Mathlib.Nat.{le-of-lt, lt-of-le-of-lt, lt-of-lt-of-le, mul-assoc, mul-comm, one-mul, mul-pos}
 use native.Mathlib.Omega.{arith}
-use lib.Dec.{T, lit<, le→leb, lt→ltb}
-use lib.IntN.{ℤ, pos, negsuc, natAbs}
+use lib.Dec.{le→leb, lt→ltb}
 use lib.Ieee.{Float, nan, inf, fin, binary32, up, down, unlike, round, div, ofInt, inFloat, low, emax, prec}
 use lib.Ieee.Back.{round-whole}
 use lib.Ieee.Exact.{HasValue, round-exact}
@@ -15,12 +11,9 @@ use lib.Ieee.Scale.{round-same}
 use lib.Pow.{pow-add, pow-mono, pow-pos, shl-lt}
 use Rattle.limits.specs.Limits.{coefficient-limit}
 use Rattle.floats.specs.Fraction.{negative, fraction}
+pub use Rattle.floats.specs.Fraction.{exact-limit}
 
--- the numbers that are exact: those below 2^24 in magnitude
-abbrev pub exact-limit : ℕ
-exact-limit = 2 ^ prec binary32
-
--- among them are all that are within the limit of coefficients
+-- among the exact numbers are all that are within the limit of coefficients
 pub few-digits : (y : ℤ) → natAbs y ≤ coefficient-limit → natAbs y < exact-limit
 few-digits y h = lt-of-le-of-lt h (lit< tt)
 

@@ -1,10 +1,8 @@
--- The viewer's 32-bit floats by their values (02, request 4), in the words of the library on IEEE 754. Of numbers whose magnitude is below 2^24, and
+-- The viewer's 32-bit floats by their values (02, request 4), in the words of the library on IEEE 754. Of numbers below `exact-limit` in magnitude, and
 -- over 2^k with k at most 149, each is finite and exactly the fraction that it stands for, with its sign (`exact`), and their order is that of the
 -- numbers (`in-order`).
-use mathlib.Core.Bool.{Bool, false, not}
-use Prim.Native.Nat.{ℕ}
-use lib.IntN.{ℤ, pos, natAbs}
-use lib.Ieee.{Float, fin, binary32, round}
+use Rattle.integers.specs.Kit.{Bool, false, not, ℕ, _^_, ℤ, pos, natAbs}
+use lib.Ieee.{Float, fin, binary32, round, prec}
 use lib.Signed.{nonNeg}
 
 -- y is below zero: the sign of its float
@@ -14,6 +12,10 @@ negative y = not (nonNeg y)
 -- the float nearest to y over d; "zero is plus zero"
 unfoldable pub fraction : ℕ → ℤ → Float
 fraction d y = round binary32 (negative y) (natAbs y) d
+
+-- the numbers whose fractions are exact: those below 2^24 in magnitude
+abbrev pub exact-limit : ℕ
+exact-limit = 2 ^ prec binary32
 
 -- "a float that is exactly its eighths divided by 8"
 abbrev pub coefficient-float : ℤ → Float

@@ -1,10 +1,7 @@
 // The viewer's 32-bit floats (02, request 4): a coefficient in eighths, and the mean grey of a block. Each is a whole number below 2^24 in magnitude
 // as an f32, which is exact, divided once by a power of two, which is exact too. And the lower and the higher of two floats.
-ghost use mathlib.Core.Path.{_≡_};
-ghost use mathlib.Core.Bool.{cond};
-ghost use Prim.Native.Nat.{_≤_};
+ghost use Rattle.integers.specs.Kit.{_≡_, cond, _≤_, natAbs};
 ghost use lib.Ieee.{lt};
-ghost use lib.IntN.{natAbs};
 ghost use Rattle.limits.specs.Limits.{coefficient-limit};
 ghost use Rattle.floats.specs.Fraction as spec;
 

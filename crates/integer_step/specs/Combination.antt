@@ -1,7 +1,5 @@
 -- What the halves of a step over whole numbers are made of.
-use mathlib.Core.List.{List}
-use Prim.Native.Nat.{ℕ}
-use lib.IntN.{ℤ, pos}
+use Rattle.integers.specs.Kit.{List, ℕ, ℤ, pos}
 use Rattle.ring.specs.Element.{add, cosine, mul}
 use Rattle.ring.specs.Maps.{part}
 
@@ -10,5 +8,5 @@ abbrev pub term : (ℕ → List ℤ) → ℕ → ℕ → List ℤ
 term r n m = mul (part (r n) 0) (cosine (pos m))
 
 -- the sum of four such products
-abbrev pub combined : (ℕ → List ℤ) → ℕ → ℕ → ℕ → ℕ → List ℤ
-combined r i j k l = add (add (add (term r 0 i) (term r 1 j)) (term r 2 k)) (term r 3 l)
+abbrev pub cosine-sum : (ℕ → List ℤ) → ℕ → ℕ → ℕ → ℕ → List ℤ
+cosine-sum r i j k l = add (add (add (term r 0 i) (term r 1 j)) (term r 2 k)) (term r 3 l)

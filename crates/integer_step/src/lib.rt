@@ -1,27 +1,37 @@
-// The 8-point step over one row of whole numbers (01, "Elements"): row k of the factors times the row, for each frequency k. What the elements of
-// the row have besides their component 0 does not count. The columns of a block are such rows, and so is what stands at one component of any row:
+// The 8-point step over one row of whole numbers (01, "Elements"): for each frequency k the sum over n of t(k,n) × x_n. The components of
+// the row's elements besides component 0 are ignored. The columns of a block are such rows, and so is what stands at one component of any row:
 // a step over elements is made of steps over their parts.
 //
 // It is factorised: butterflies first, the sums x_n + x_(7-n) and the differences x_n - x_(7-n), n from 0 to 3; then the even frequencies from the
 // sums, and the odd ones from the differences, each of four products in place of eight. A product of a whole number with c_m needs no addition,
-// since c_m counts a component of its own.
+// since c_m is plus or minus one of c_1 to c_7.
 //
-// 32 bits suffice: a step adds three bits to what the numbers need.
-ghost use Prim.Native.Nat.{_%_, _*_, _+_, _-_, _<_};
-ghost use mathlib.Core.Path.{_≡_};
+// 32 bits suffice: a component of a frequency is a sum of at most eight of the numbers, which adds three bits; they may have 27.
+ghost use Rattle.integers.specs.Kit.{_%_, _*_, _+_, _-_, _<_, _≡_};
 ghost use Rattle.ring.specs.Element as ring;
 ghost use Rattle.ring.specs.Maps.{part};
 ghost use Rattle.dct.specs.Transform as dct;
-ghost use Rattle.elements.specs.Bound.{bit-limit};
+ghost use Rattle.elements.specs.Bound.{Within, bit-limit, headroom};
 ghost use Rattle.elements.specs.Buffer.{Row, item};
 ghost use Rattle.element_rows.specs.Room.{Room};
-ghost use Rattle.integer_step.specs.Combination.{combined};
+ghost use Rattle.integer_step.specs.Combination as spec;
 use element_rows::join;
-use element_rows::times_integer;
 use elements::Element;
 use elements::add;
 use elements::add_four;
 use elements::subtract;
+use elements::times_integer;
+
+// Number n of four, times c_m, for m no multiple of 8.
+fn term(r: [Element; 4], n: usize, m: usize) -> Element
+    requires { ⌜ Room 4 (bit-limit 28) r ⌝ }
+    requires { ⌜ n < 4 ⌝ }
+    requires { ⌜ 0 < m % 8 ⌝ }
+    ensures { λ e. ⌜ e .components ≡ spec.term (item r) n m ⌝ }
+    ensures { λ e. ⌜ Within (bit-limit 28) (e .components) ⌝ }
+{
+    times_integer(r[n], m)
+}
 
 // The sum of four numbers, each times the cosine of its angle, none of which is a multiple of 8.
 fn combination(r: [Element; 4], i: usize, j: usize, k: usize, l: usize) -> Element
@@ -30,39 +40,51 @@ fn combination(r: [Element; 4], i: usize, j: usize, k: usize, l: usize) -> Eleme
     requires { ⌜ 0 < j % 8 ⌝ }
     requires { ⌜ 0 < k % 8 ⌝ }
     requires { ⌜ 0 < l % 8 ⌝ }
-    ensures { λ e. ⌜ e .components ≡ combined (item r) i j k l ⌝ }
+    ensures { λ e. ⌜ e .components ≡ spec.cosine-sum (item r) i j k l ⌝ }
 {
-    add_four(
-        times_integer(r[0], i),
-        times_integer(r[1], j),
-        times_integer(r[2], k),
-        times_integer(r[3], l),
-    )
+    add_four(term(r, 0, i), term(r, 1, j), term(r, 2, k), term(r, 3, l))
 }
 
-// x_n + x_(7-n), for n from 0 to 3.
+// x_n + x_(7-n)
+fn sum(x: [Element; 8], n: usize) -> Element
+    requires { ⌜ Within headroom (item x n) ⌝ }
+    requires { ⌜ Within headroom (item x (7 - n)) ⌝ }
+    requires { ⌜ n < 4 ⌝ }
+    ensures { λ r. ⌜ r .components ≡ ring.add (item x n) (item x (7 - n)) ⌝ }
+{
+    add(x[n], x[7 - n])
+}
+
+// The sums for n from 0 to 3.
 fn sums(x: [Element; 8]) -> [Element; 4]
     requires { ⌜ Room 8 (bit-limit 27) x ⌝ }
     ensures { λ r. ⌜ Row 4 (λ n. ring.add (item x n) (item x (7 - n))) r ⌝ }
+    ensures { λ r. ⌜ Room 4 (bit-limit 28) r ⌝ }
 {
-    [
-        add(x[0], x[7]),
-        add(x[1], x[6]),
-        add(x[2], x[5]),
-        add(x[3], x[4]),
-    ]
+    [sum(x, 0), sum(x, 1), sum(x, 2), sum(x, 3)]
 }
 
-// x_n - x_(7-n), for n from 0 to 3.
+// x_n - x_(7-n)
+fn difference(x: [Element; 8], n: usize) -> Element
+    requires { ⌜ Within headroom (item x n) ⌝ }
+    requires { ⌜ Within headroom (item x (7 - n)) ⌝ }
+    requires { ⌜ n < 4 ⌝ }
+    ensures { λ r. ⌜ r .components ≡ ring.subtract (item x n) (item x (7 - n)) ⌝ }
+{
+    subtract(x[n], x[7 - n])
+}
+
+// The differences for n from 0 to 3.
 fn differences(x: [Element; 8]) -> [Element; 4]
     requires { ⌜ Room 8 (bit-limit 27) x ⌝ }
     ensures { λ r. ⌜ Row 4 (λ n. ring.subtract (item x n) (item x (7 - n))) r ⌝ }
+    ensures { λ r. ⌜ Room 4 (bit-limit 28) r ⌝ }
 {
     [
-        subtract(x[0], x[7]),
-        subtract(x[1], x[6]),
-        subtract(x[2], x[5]),
-        subtract(x[3], x[4]),
+        difference(x, 0),
+        difference(x, 1),
+        difference(x, 2),
+        difference(x, 3),
     ]
 }
 

@@ -1,10 +1,7 @@
 -- Division that rounds down.
--- Assumes nothing.
-use mathlib.Core.Path.{_≡_, ap}
-use Prim.Native.Nat.{ℕ, suc, _+_, _*_, _-_, _/_, _≤_, _<_}
+use Rattle.integers.specs.Kit.{_≡_, ap, ℕ, suc, _+_, _*_, _-_, _/_, _≤_, _<_, ℤ, pos, negsuc, _+ℤ_, _*ℤ_, natAbs}
 use native.Mathlib.Nat.{mul-div-le, lt-mul-div-succ, mul-div-right, div-eq-of-lt-le, div-le-self}
 use native.Mathlib.Omega.{arith}
-use lib.IntN.{ℤ, pos, negsuc, _+ℤ_, _*ℤ_, natAbs}
 use lib.Signed.{_≤ℤ_, _<ℤ_, shrZ}
 use Rattle.integers.proofs.Integer.{up, down, as-dif, dif-le, dif-lt, difs}
 

@@ -1,33 +1,38 @@
 -- The foremost index in an order, as a loop that keeps the best so far finds it; there is one in every range that is not empty; and what it is.
--- Assumes nothing.
-use mathlib.Core.Path.{_≡_, refl, sym, ap, subst, _∙_}
-use mathlib.Core.Bool.{Bool, true, false, cond, not, _&&_}
-use Prim.Native.Nat.{ℕ, zero, suc, _+_, _-_, _≤_, _<_}
+use Rattle.integers.specs.Kit.{_≡_, refl, sym, subst, _∙_, Bool, true, false, cond, not, _&&_, ℕ, zero, suc, _+_, _-_, _≤_, _<_, T, leb, ℤ, pos, negsuc}
 use native.Mathlib.Nat.{le-refl, le-of-lt}
 use native.Mathlib.Decide.{decLt}
 use native.Mathlib.Omega.{arith}
-use lib.Dec.{T, leb, leb→le}
-use lib.IntN.{ℤ, pos, negsuc}
+use lib.Dec.{leb→le}
 use lib.Signed.{ltZ, ltZ-yes, ltZ-no, <ℤ-≤ℤ-trans, clashℤ}
 use mir.Facts.{and-yes}
-use borrow.Author.Tests.{le-ltb, le-leb, ltb-true, ltb-false, leb-true, not-false}
+use borrow.Author.Tests.{le-ltb, le-leb, ltb-true, leb-true, not-false}
 use Rattle.integers.specs.Search.{first, any, foremost}
 use Rattle.integers.proofs.Search.{first-at, first-below, before-first, at-first, any-at, none-any}
 use Rattle.integers.proofs.Tests.{holds}
 
--- an order in which indices can be level
+-- an order in which two can be level
 
-pub record Order (before : ℕ → ℕ → Bool) : Type 0 where
-  pub asymmetric : (p q : ℕ) → before p q ≡ true → before q p ≡ false
+pub record Order {A : Type 0} (before : A → A → Bool) : Type 0 where
+  pub asymmetric : (p q : A) → before p q ≡ true → before q p ≡ false
   -- what comes before q comes before p too, or p comes before q
-  pub weak : (p q r : ℕ) → before r q ≡ true → before r p ≡ false → before p q ≡ true
+  pub weak : (p q r : A) → before r q ≡ true → before r p ≡ false → before p q ≡ true
 
-irreflexive : {before : ℕ → ℕ → Bool} → Order before → (p : ℕ) → before p p ≡ false
-irreflexive {before} O p = go (before p p) refl
-  where
-    go : (t : Bool) → before p p ≡ t → t ≡ false
-    go true e = sym e ∙ O .asymmetric p p e
-    go false e = refl
+module _ {A : Type 0} {before : A → A → Bool} (O : Order before) where
+  pub irreflexive : (p : A) → before p p ≡ false
+  irreflexive p = go (before p p) refl
+    where
+      go : (t : Bool) → before p p ≡ t → t ≡ false
+      go true e = sym e ∙ O .asymmetric p p e
+      go false e = refl
+
+  -- what does not come before p does not come before q, which does not come after it
+  pub not-before : (p q r : A) → before p q ≡ false → before r p ≡ false → before r q ≡ false
+  not-before p q r e f = go (before r q) refl
+    where
+      go : (t : Bool) → before r q ≡ t → t ≡ false
+      go true g = sym (O .weak p q r g f) ∙ e
+      go false g = refl
 
 -- by integers
 
@@ -49,14 +54,7 @@ less-weak a b c e f = go (ltZ c b) refl
 more-weak : (a b c : ℤ) → ltZ b a ≡ true → ltZ c a ≡ false → ltZ b c ≡ true
 more-weak a b c e f = holds (ltZ b c) (<ℤ-≤ℤ-trans (ltZ-yes {a = b} {b = a} (rw e tt)) (ltZ-no {a = c} {b = a} (rw f tt)) .lt)
 
--- where neither is less
-pub less-level : (a b : ℤ) → ltZ a b ≡ false → ltZ b a ≡ false → a ≡ b
-less-level (pos a) (pos b) e f = let h = ltb-false a b e in let k = ltb-false b a f in ap pos (omega arith)
-less-level (pos a) (negsuc b) e f = absurd (subst T f tt)
-less-level (negsuc a) (pos b) e f = absurd (subst T e tt)
-less-level (negsuc a) (negsuc b) e f = let h = ltb-false b a e in let k = ltb-false a b f in ap negsuc (omega arith)
-
-module _ (key : ℕ → ℤ) where
+module _ {A : Type 0} (key : A → ℤ) where
   -- the lower comes first, and the higher
 
   pub lower-first : Order (λ q p. ltZ (key q) (key p))
@@ -75,53 +73,37 @@ module _ {before : ℕ → ℕ → Bool} (O : Order before) where
   pub best-first : (a : ℕ) → Best a before (a + 1) a
   best-first a = record { from = le-refl a; below = omega arith; none-before = λ q h l. let e : q ≡ a = omega arith in rw e (irreflexive O a) }
 
-  -- the best from a on and below i, and the best q from i on and below n: t says whether q comes before the other
-  pub best-joined : {a i n j q : ℕ} {t : Bool} → Best a before i j → Best i before n q → t ≡ before q j → Best a before n (cond t q j)
-  best-joined {a} {i} {n} {j} {q} {t = true} B C e =
-      let f = B .from in
-      let l = B .below in
-      let k = C .from in
-      record { from = omega arith; below = C .below; none-before = λ p h m. go p h m (decLt p i) }
+  -- one more: t says whether it comes before the best j so far
+  pub best-next : {a i j : ℕ} {t : Bool} → Best a before i j → t ≡ before i j → Best a before (i + 1) (cond t i j)
+  best-next {a} {i} {j} {t} B e = go t e
     where
-      follows : (p : ℕ) → before p j ≡ false → before p q ≡ false
-      follows p x = either (before q p) refl
+      go : (t : Bool) → t ≡ before i j → Best a before (i + 1) (cond t i j)
+      go true e = record { from = omega (arith, B .from, B .below); below = omega arith; none-before = λ q h m. either q h m (decLt q i) }
         where
-          either : (s : Bool) → before q p ≡ s → before p q ≡ false
-          either true y = O .asymmetric q p y
-          either false y = absurd (subst T (sym (O .weak p j q (sym e) y) ∙ x) tt)
-
-      go : (p : ℕ) → a ≤ p → p < n → Dec (p < i) → before p q ≡ false
-      go p h m (yes s) = follows p (B .none-before p h s)
-      go p h m (no s) = C .none-before p (omega arith) m
-  best-joined {a} {i} {n} {j} {q} {t = false} B C e =
-      let f = B .below in
-      let l = C .from in
-      let k = C .below in
-      record { from = B .from; below = omega arith; none-before = λ p h m. go p h m (decLt p i) }
-    where
-      later : (p : ℕ) → before p q ≡ false → (s : Bool) → before p j ≡ s → s ≡ false
-      later p x true y = sym (O .weak q j p y x) ∙ sym e
-      later p x false y = refl
-
-      go : (p : ℕ) → a ≤ p → p < n → Dec (p < i) → before p j ≡ false
-      go p h m (yes s) = B .none-before p h s
-      go p h m (no s) = later p (C .none-before p (omega arith) m) (before p j) refl
+          either : (q : ℕ) → a ≤ q → q < i + 1 → Dec (q < i) → before q i ≡ false
+          either q h m (yes k) = not-before O j i q (O .asymmetric i j (sym e)) (B .none-before q h k)
+          either q h m (no k) = let p : q ≡ i = omega arith in rw p (irreflexive O i)
+      go false e = record { from = B .from; below = omega (arith, B .below); none-before = λ q h m. either q h m (decLt q i) }
+        where
+          either : (q : ℕ) → a ≤ q → q < i + 1 → Dec (q < i) → before q j ≡ false
+          either q h m (yes k) = B .none-before q h k
+          either q h m (no k) = let p : q ≡ i = omega arith in rw p (sym e)
 
 -- the foremost, where there is a best
 
 module _ {a : ℕ} {before : ℕ → ℕ → Bool} (O : Order before) {n j : ℕ} (B : Best a before n j) where
-  abbrev precedes : ℕ → ℕ → Bool
-  precedes p q = leb a q && before q p
+  abbrev preceded-by : ℕ → ℕ → Bool
+  preceded-by p q = leb a q && before q p
 
   abbrev stands : ℕ → Bool
-  stands p = leb a p && not (any n (precedes p))
+  stands p = leb a p && not (any n (preceded-by p))
 
   none-precedes : {p : ℕ} → Best a before n p → (q : ℕ) → q < n → (t : Bool) → leb a q ≡ t → (t && before q p) ≡ false
   none-precedes P q l true h = P .none-before q (leb-true a q h) l
   none-precedes P q l false h = refl
 
   best-stands : {p : ℕ} → Best a before n p → stands p ≡ true
-  best-stands {p} P = rw (le-leb a p (P .from), none-any n (precedes p) (λ q l. none-precedes P q l (leb a q) refl))
+  best-stands {p} P = rw (le-leb a p (P .from), none-any n (preceded-by p) (λ q l. none-precedes P q l (leb a q) refl))
 
   foremost-below : foremost a n before < n
   unfolding foremost
@@ -131,11 +113,11 @@ module _ {a : ℕ} {before : ℕ → ℕ → Bool} (O : Order before) {n j : ℕ
   unfolding foremost
   foremost-best =
       let p = first n stands in
-      let (h, none) = and-yes (leb a p) (not (any n (precedes p))) (rw (at-first n stands foremost-below) tt) in
+      let (h, none) = and-yes (leb a p) (not (any n (preceded-by p))) (rw (at-first n stands foremost-below) tt) in
       record { from = leb→le a p h; below = foremost-below; none-before = λ q k l. clear p none q k l (before q p) refl }
     where
-      clear : (p : ℕ) → T (not (any n (precedes p))) → (q : ℕ) → a ≤ q → q < n → (t : Bool) → before q p ≡ t → t ≡ false
-      clear p none q k l true e = absurd (subst (λ t. T (not t)) (any-at n (precedes p) q l (rw (le-leb a q k, e))) none)
+      clear : (p : ℕ) → T (not (any n (preceded-by p))) → (q : ℕ) → a ≤ q → q < n → (t : Bool) → before q p ≡ t → t ≡ false
+      clear p none q k l true e = absurd (subst (λ t. T (not t)) (any-at n (preceded-by p) q l (rw (le-leb a q k, e))) none)
       clear p none q k l false e = refl
 
   -- it comes before each of those that stand before it
@@ -143,10 +125,10 @@ module _ {a : ℕ} {before : ℕ → ℕ → Bool} (O : Order before) {n j : ℕ
   unfolding foremost
   foremost-first q h l =
       let p = first n stands in
-      let some : any n (precedes q) ≡ true = not-false (any n (precedes q)) (sym (rw (le-leb a q h)) ∙ before-first n stands q l) in
-      let r = first n (precedes q) in
+      let some : any n (preceded-by q) ≡ true = not-false (any n (preceded-by q)) (sym (rw (le-leb a q h)) ∙ before-first n stands q l) in
+      let r = first n (preceded-by q) in
       let k = ltb-true r n some in
-      let (m, e) = and-yes (leb a r) (before r q) (rw (at-first n (precedes q) k) tt) in
+      let (m, e) = and-yes (leb a r) (before r q) (rw (at-first n (preceded-by q) k) tt) in
       O .weak p q r (holds (before r q) e) (foremost-best .none-before r (leb→le a r m) k)
 
   -- a best that comes before each of those that stand before it is the foremost
@@ -154,8 +136,8 @@ module _ {a : ℕ} {before : ℕ → ℕ → Bool} (O : Order before) {n j : ℕ
   unfolding foremost
   is-foremost least = first-at n stands j (B .below) (record { room = le-of-lt (B .below); fails = λ q l. go q l (leb a q) refl }) (best-stands B)
     where
-      go : (q : ℕ) → q < j → (t : Bool) → leb a q ≡ t → (t && not (any n (precedes q))) ≡ false
-      go q l true h = rw (any-at n (precedes q) j (B .below) (rw (le-leb a j (B .from), least q (leb-true a q h) l)))
+      go : (q : ℕ) → q < j → (t : Bool) → leb a q ≡ t → (t && not (any n (preceded-by q))) ≡ false
+      go q l true h = rw (any-at n (preceded-by q) j (B .below) (rw (le-leb a j (B .from), least q (leb-true a q h) l)))
       go q l false h = refl
 
 -- v is the value of the best from a on and below i: what a loop knows at i that keeps the value, and not the index
@@ -168,16 +150,11 @@ module _ {A : Type 0} {before : ℕ → ℕ → Bool} {value : ℕ → A} (O : O
   pub best-value-first : (a : ℕ) {v : A} → v ≡ value a → BestValue a before value (a + 1) v
   best-value-first a e = record { index = a; best = best-first O a; has = e }
 
-  -- the values of the best from a on and below i, and of the best from i on and below n
-  pub best-value-joined : {a i n : ℕ} {v x : A} {t : Bool} (K : BestValue a before value i v) (L : BestValue i before value n x) → t ≡ before (L .index) (K .index)
-      → BestValue a before value n (cond t x v)
-  best-value-joined {t = true} K L e = record { index = L .index; best = best-joined O (K .best) (L .best) e; has = L .has }
-  best-value-joined {t = false} K L e = record { index = K .index; best = best-joined O (K .best) (L .best) e; has = K .has }
-
   -- one more, of the value x
   pub best-value-next : {a i : ℕ} {v x : A} {t : Bool} (K : BestValue a before value i v) → x ≡ value i → t ≡ before i (K .index)
       → BestValue a before value (i + 1) (cond t x v)
-  best-value-next {i = i} K e f = best-value-joined K (record { index = i; best = best-first O i; has = e }) f
+  best-value-next {i = i} {t = true} K e f = record { index = i; best = best-next O (K .best) f; has = e }
+  best-value-next {t = false} K e f = record { index = K .index; best = best-next O (K .best) f; has = K .has }
 
   -- the value of the foremost, where two indices that are level have one value
   pub best-value-foremost : {a n : ℕ} {v : A} → ((p q : ℕ) → before p q ≡ false → before q p ≡ false → value p ≡ value q) → BestValue a before value n v

@@ -1,22 +1,21 @@
 -- The integers as an ordered commutative ring.
--- No tactic reads ℤ. So an integer is written as a difference of two naturals, `dif a b`, behind a shut name; the rules below carry
+-- No tactic reads ℤ. So an integer is written as a difference of two naturals, `dif a b`, which is opaque; the rules below carry
 -- +, -, *, ≡ and ≤ over to naturals, and each law is then one call of `omega`.
--- Assumes nothing.
-use mathlib.Core.Path.{_≡_, sym, ap, _∙_}
+use Rattle.integers.specs.Kit.{_≡_, sym, ap, _∙_, Bool, true, false, not, cond, ℕ, zero, suc, _+_, _*_, _-_, _≤_, _<_, T, ltb, ℤ, pos, negsuc, _+ℤ_, _-ℤ_, _*ℤ_, negℤ, natAbs}
 use mathlib.Core.Logic.{_↔_, _⊎_, inl, inr}
-use mathlib.Core.Bool.{Bool, true, false, not, cond}
-use Prim.Native.Nat.{ℕ, zero, suc, _+_, _*_, _-_, _≤_, _<_}
 use native.Mathlib.Nat.{eq-of-mul-eq-mul-left, mul-le-mul, mul-le-mul-left, mul-lt-mul-of-pos-left, lt-of-mul-lt-mul-left}
 use native.Mathlib.Decide.{decLe, decLt}
 use native.Mathlib.Omega.{arith}
-use lib.Dec.{T, ltb, ltb→lt, lt→ltb, nltb→le, leb→le, le→leb, nleb→lt}
-use lib.IntN.{ℤ, pos, negsuc, subℕ, _+ℤ_, _-ℤ_, _*ℤ_, negℤ, natAbs, one, *ℤ-one, *ℤ-comm}
+use lib.Dec.{ltb→lt, lt→ltb, nltb→le, leb→le, le→leb, nleb→lt}
+use lib.IntN.{subℕ, one, *ℤ-one, *ℤ-comm}
 use lib.Signed.{_≤ℤ_, _<ℤ_, leZ}
 
 -- an integer as a difference
 
 pub dif : ℕ → ℕ → ℤ
 dif a b = subℕ a b
+
+-- the positive part max(z, 0) and the negative part max(-z, 0): z = up z - down z
 
 abbrev pub up : ℤ → ℕ
 up (pos n) = n
@@ -45,7 +44,7 @@ dif-same a b c d e =
     (λ n p. by-order c d (λ z. pos n ≡ z) (λ m q. ap pos (omega arith)) (λ m q. absurd (omega arith)))
     (λ n p. by-order c d (λ z. negsuc n ≡ z) (λ m q. absurd (omega arith)) (λ m q. ap negsuc (omega arith)))
 
--- up to a common k, the difference of a and b is the one of its value's own parts
+-- a and b are the positive and the negative part of a - b, each with a common k added
 common : (a b : ℕ) → (k : ℕ) × (a ≡ up (dif a b) + k) × (b ≡ down (dif a b) + k)
 common a b =
     by-order a b (λ z. (k : ℕ) × (a ≡ up z + k) × (b ≡ down z + k))

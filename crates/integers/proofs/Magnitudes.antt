@@ -1,13 +1,12 @@
 -- The magnitude of an integer.
--- Assumes nothing.
-use mathlib.Core.Path.{_≡_, refl, sym}
-use Prim.Native.Nat.{zero, suc, _+_, _*_, _^_, _≤_, _<_}
+use Rattle.integers.specs.Kit.{_≡_, refl, sym, subst, true, false, zero, suc, _+_, _*_, _^_, _≤_, _<_, T, ℤ, pos, negsuc, _+ℤ_, _-ℤ_, _*ℤ_, negℤ, natAbs}
 use native.Mathlib.Omega.{arith}
-use native.Mathlib.Nat.{add-zero, zero-add, le-refl, le-suc, lt-of-le-of-lt}
-use lib.IntN.{ℤ, pos, negsuc, _+ℤ_, _-ℤ_, _*ℤ_, negℤ, natAbs}
-use lib.Signed.{mag}
+use native.Mathlib.Nat.{add-zero, zero-add, le-refl, le-suc, lt-of-le-of-lt, not-suc-le-zero}
+use lib.IntN.{+ℤ-idl}
+use lib.Signed.{mag, ltZ, nonNeg}
 use mir.Syntax.{Width}
 use mir.Val.{SFits, hbits}
+use borrow.Author.Tests.{ltb-true}
 use Rattle.integers.proofs.Integer.{up, down, add-parts, dif-natAbs}
 
 pub natAbs-neg : (a : ℤ) → natAbs (negℤ a) ≡ natAbs a
@@ -39,3 +38,16 @@ mag-le (negsuc n) = le-suc n
 -- an integer whose magnitude is below half of the width's power fits the width
 pub small-fits : (w : Width) (a : ℤ) → natAbs a < 2 ^ hbits w → SFits w a
 small-fits w a h = record { sfits = lt-of-le-of-lt (mag-le a) h }
+
+-- a number below 0 is the negative of its magnitude, and any other is its magnitude
+
+pub negated : (z : ℤ) → ltZ z (pos 0) ≡ true → pos 0 -ℤ z ≡ pos (natAbs z)
+negated (pos n) e = absurd (not-suc-le-zero (ltb-true n 0 e))
+negated (negsuc n) e = +ℤ-idl (pos (suc n))
+
+pub itself : (z : ℤ) → ltZ z (pos 0) ≡ false → z ≡ pos (natAbs z)
+itself (pos n) e = refl
+itself (negsuc n) e = absurd (subst T e tt)
+
+pub not-negative : (z : ℤ) → ltZ z (pos 0) ≡ false → T (nonNeg z)
+not-negative z e = subst (λ w. T (nonNeg w)) (sym (itself z e)) tt

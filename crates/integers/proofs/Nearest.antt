@@ -1,13 +1,11 @@
 -- The whole number nearest to z/D: what nearness alone gives; that the rule for halves leaves one number; that the formula gives it; and how a
 -- shift does.
--- Assumes nothing.
-use mathlib.Core.Path.{_≡_, refl, sym, ap, ap₂, _∙_}
+use Rattle.integers.specs.Kit.{_≡_, refl, sym, ap, ap₂, _∙_, ℕ, zero, suc, _+_, _*_, _-_, _/_, _≤_, _<_, ℤ, pos, negsuc, _+ℤ_, _-ℤ_, _*ℤ_, negℤ, natAbs}
 use mathlib.Core.Logic.{_↔_}
-use Prim.Native.Nat.{ℕ, zero, suc, _+_, _*_, _-_, _/_, _≤_, _<_}
 use native.Mathlib.Nat.{le-refl, lt-of-not-le, le-of-suc-le-suc, mul-le-mul-left, eq-of-mul-eq-mul-left, mul-div-le, lt-mul-div-succ, add-div-right, div-div-eq-div-mul, zero-lt-suc}
 use native.Mathlib.Omega.{arith}
 use lib.Dec.{leb→le, ltb→lt}
-use lib.IntN.{ℤ, pos, negsuc, _+ℤ_, _-ℤ_, _*ℤ_, negℤ, natAbs, negℤ-negℤ, -ℤ-+ℤ-cancel}
+use lib.IntN.{negℤ-negℤ, -ℤ-+ℤ-cancel}
 use lib.Signed.{_≤ℤ_, _<ℤ_, shrZ}
 use Rattle.integers.specs.Nearest.{Nearest, Rounded, Up, Away, half-up, half-away}
 use Rattle.integers.proofs.Integer.{dif, up, down, as-dif, add-parts, dif-same, dif-neg, dif-le, dif-lt, dif-natAbs, difs, negℤ-≤ℤ, *ℤ-negℤ, ≤ℤ-antisym}
@@ -34,7 +32,7 @@ nearest-small {z} {q} {D} B p h N =
 
 -- a rule for halves leaves one number
 
--- the rule takes one at most of two multiples of D between which z lies
+-- the rule takes one at most of two neighbouring multiples of D between which z lies
 abbrev pub Decides : (ℤ → ℤ → Type 0) → Type 0
 Decides rule =
     (z q : ℤ) (D : ℕ) → (pos D *ℤ q) ≤ℤ z → z ≤ℤ (pos D *ℤ (q +ℤ pos 1)) → rule z (pos D *ℤ q) → rule z (pos D *ℤ (q +ℤ pos 1)) → ⊥
@@ -137,7 +135,7 @@ module _ {D : ℕ} (positive : 0 < D) where
 
 -- for D = 2·h, by shifts: z/h rounded down, plus 1, divided by 2 and rounded down; from a negative z first 1 is taken
 
--- z, less 1 where it is negative
+-- z, less 1 where it is negative, so that a half of a negative z goes down
 abbrev pub lowered : ℤ → ℤ
 lowered (pos a) = pos a
 lowered (negsuc a) = negsuc (suc a)

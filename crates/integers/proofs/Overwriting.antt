@@ -1,14 +1,13 @@
 -- A buffer whose start is written over, beyond which it is as it was: place by place, and part after part.
--- Assumes nothing.
-use mathlib.Core.Path.{_≡_, refl, sym, ap, _∙_}
-use mathlib.Core.List.{List, [], _∷_, _++_, append-assoc}
-use Prim.Native.Nat.{ℕ, zero, suc, _+_, _-_, _≤_, _<_, zero-le}
+use Rattle.integers.specs.Kit.{_≡_, refl, sym, ap, _∙_, List, [], _∷_, _++_, ℕ, zero, suc, _+_, _-_, _≤_, _<_, length, getD, set, take, drop}
+use mathlib.Core.List.{append-assoc}
+use Prim.Native.Nat.{zero-le}
 use native.Mathlib.Nat.{add-zero, zero-add, suc-add}
 use native.Mathlib.Numerals.{add-one}
 use native.Mathlib.Omega.{arith}
-use lib.ListN.{length, getD, set, take, drop, length-append, length-take, length-drop, take-append-drop, List·getD-append}
+use lib.ListN.{length-append, length-take, length-drop, take-append-drop, List·getD-append}
 use lib.Seq.{getD-append-add, getD-drop, getD-take, drop-cons, drop-drop, set-at, take-at, drop-at, drop-append-le}
-use Rattle.integers.specs.Table.{table, over}
+use Rattle.integers.specs.Table.{table, over, over-at}
 use Rattle.integers.proofs.Tables.{length-table}
 
 module _ {A : Type 0} where
@@ -53,31 +52,43 @@ module _ {A : Type 0} where
       rw (table-more i f, length-append (table i f) (f i ∷ []), length-table i f, drop-cons l i (f i) h, append-assoc (table i f) (f i ∷ []), add-one i)
       (set-at (table i f) (getD l i (f i)) (drop (suc i) l) (f i) i (length-table i f))
 
-  -- one part more: q is written over what is left beyond p
-  over-part : (p q l : List A) → p ++ over q (drop (length p) l) ≡ over (p ++ q) l
-  unfolding over
-  over-part p q l = rw (drop-drop (length q) (length p) l, length-append p q) (sym (append-assoc p q (drop (length p + length q) l)))
+  -- a part of a list, which begins at index a
 
-  -- a part of k places that is lent and comes back
-  part-back : (q m : List A) (k : ℕ) → length q ≤ k → length q ≤ length m → over q (take k m) ++ drop k m ≡ over q m
-  unfolding over
-  part-back q m k h g =
-      let room : length q ≤ length (take k m) = simp length-take (omega arith) in
-      append-assoc q (drop (length q) (take k m)) (drop k m)
-      ∙ ap (λ t. q ++ t) (sym (drop-append-le (length q) (take k m) (drop k m) room) ∙ ap (drop (length q)) (take-append-drop k m))
+  pub over-start : (p l : List A) → over-at 0 p l ≡ over p l
+  unfolding over-at
+  over-start p l = refl
 
-  -- the part that begins where p ends is lent, and comes back with q written over its start
-  pub over-lent : (p q l : List A) (a k : ℕ) → length p ≡ a → length q ≤ k → length p + length q ≤ length l
-      → take a (over p l) ++ (over q (take k (drop a (over p l))) ++ drop k (drop a (over p l))) ≡ over (p ++ q) l
-  unfolding over
-  over-lent p q l a k e h g =
-      let m = drop (length p) l in
-      let room : length q ≤ length m = simp length-drop (omega arith) in
-      rw (take-at p m a e, drop-at p m a e) (ap (λ t. p ++ t) (part-back q m k h room) ∙ over-part p q l)
+  pub over-at-none : (a : ℕ) (l : List A) → over-at a [] l ≡ l
+  unfolding over-at over
+  over-at-none a l = take-append-drop a l
 
-  -- what stood before such a part is kept
-  pub before-part : (l m : List A) (a : ℕ) (d : A) (i : ℕ) → a ≤ length l → i < a → getD (take a l ++ m) i d ≡ getD l i d
-  before-part l m a d i h k = List·getD-append (take a l) m d i (simp length-take (omega arith)) ∙ getD-take a l i d k
+  pub length-over-at : (a : ℕ) (p l : List A) → a + length p ≤ length l → length (over-at a p l) ≡ length l
+  unfolding over-at over
+  length-over-at a p l h = simp (length-append, length-take, length-drop) (omega arith)
+
+  -- what stands before it is kept
+  pub before-part : (a : ℕ) (p l : List A) (d : A) (i : ℕ) → a ≤ length l → i < a → getD (over-at a p l) i d ≡ getD l i d
+  unfolding over-at
+  before-part a p l d i h k = List·getD-append (take a l) (over p (drop a l)) d i (simp length-take (omega arith)) ∙ getD-take a l i d k
+
+  -- one part more, where the first ends
+  pub over-on : (a b : ℕ) (p q l : List A) → a ≤ length l → b ≡ a + length p → over-at b q (over-at a p l) ≡ over-at a (p ++ q) l
+  unfolding over-at over
+  over-on a b p q l h e =
+      let m = drop a l in
+      let size : length (take a l ++ p) ≡ b = simp (length-append, length-take) (omega arith) in
+      rw (← append-assoc (take a l) p (drop (length p) m), take-at (take a l ++ p) (drop (length p) m) b size, drop-at (take a l ++ p) (drop (length p) m) b size)
+      (rw (drop-drop (length q) (length p) m, length-append p q, append-assoc (take a l) p (q ++ drop (length p + length q) m), append-assoc p q (drop (length p + length q) m)))
+
+  -- the rest of k places from index a on is lent, and comes back as m with q written over its start
+  pub over-lent : (a k : ℕ) (q l : List A) {m : List A} → a + length q ≤ length l → length q ≤ k → m ≡ over q (take k (drop a l))
+      → take a l ++ (m ++ drop k (drop a l)) ≡ over-at a q l
+  unfolding over-at over
+  over-lent a k q l h g e =
+      let n = drop a l in
+      let room : length q ≤ length (take k n) = simp (length-take, length-drop) (omega arith) in
+      ap (λ t. take a l ++ t) (ap (λ t. t ++ drop k n) e ∙ append-assoc q (drop (length q) (take k n)) (drop k n)
+      ∙ ap (λ t. q ++ t) (sym (drop-append-le (length q) (take k n) (drop k n) room) ∙ ap (drop (length q)) (take-append-drop k n)))
 
 -- a loop that writes over the start of a buffer, place by place
 

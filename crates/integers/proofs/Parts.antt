@@ -1,13 +1,6 @@
 -- A buffer that is written part by part, in whatever order.
--- Assumes nothing.
-use mathlib.Core.Path.{_≡_, _∙_}
-use mathlib.Core.Bool.{Bool, false, _||_}
-use mathlib.Core.List.{List, [], _∷_}
-use Prim.Native.Nat.{ℕ, _<_}
+use Rattle.integers.specs.Kit.{_≡_, _∙_, Bool, false, _||_, List, [], _∷_, ℕ, _<_, T, eqb, ℤ, pos, length, getD}
 use native.Mathlib.Decide.{ℕ-discrete}
-use lib.Dec.{T, eqb}
-use lib.IntN.{ℤ, pos}
-use lib.ListN.{length, getD}
 use borrow.Author.Tests.{ne-eqb}
 use Rattle.integers.specs.Table.{table, PartStored}
 use Rattle.integers.specs.Test.{every}

@@ -1,12 +1,9 @@
 -- Ranges: what a number is that does not lie outside one, by its magnitude; and what a search for one that does reads.
--- Assumes nothing.
-use mathlib.Core.Path.{_≡_, refl, sym, _∙_}
-use mathlib.Core.Bool.{Bool, true, false, _||_}
-use Prim.Native.Nat.{ℕ, zero, suc, _≤_, zero-le}
+use Rattle.integers.specs.Kit.{_≡_, refl, sym, _∙_, Bool, true, false, _||_, ℕ, zero, suc, _≤_, ltb, ℤ, pos, negsuc, negℤ, natAbs}
+use Prim.Native.Nat.{zero-le}
 use native.Mathlib.Nat.{zero-lt-suc}
 use native.Mathlib.Omega.{arith}
-use lib.Dec.{ltb, leb·suc-suc}
-use lib.IntN.{ℤ, pos, negsuc, negℤ, natAbs}
+use lib.Dec.{leb·suc-suc}
 use lib.Signed.{mag, natAbs-le}
 use mir.Syntax.{w32}
 use mir.Val.{SFits}

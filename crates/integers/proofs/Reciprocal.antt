@@ -1,16 +1,11 @@
 -- Quotients by a table of reciprocals (Granlund and Montgomery): n / s as n·M / D, with one product and, where D is a power of 2, one shift.
--- Assumes nothing.
-use mathlib.Core.Path.{_≡_, sym, ap, _∙_}
-use mathlib.Core.Bool.{Bool, _&&_}
-use Prim.Native.Nat.{ℕ, _+_, _*_, _-_, _/_, _≤_, _<_}
+-- For request 7 of 02; no job uses it yet.
+use Rattle.integers.specs.Kit.{_≡_, sym, ap, _∙_, ℕ, _+_, _*_, _-_, _/_, _≤_, _<_, T, leb, ltb}
 use native.Mathlib.Nat.{lt-of-not-le, mul-le-mul-left, mul-le-mul-right, div-eq-of-lt-le, div-div-eq-div-mul, mul-div-mul-right}
 use native.Mathlib.Omega.{arith}
-use lib.Dec.{T, leb, ltb, leb→le, ltb→lt}
+use lib.Dec.{leb→le, ltb→lt}
 use mir.Facts.{and-yes}
-
--- M serves for D/s up to B: M·s is D, or above it by so little that B times as much is less than D
-abbrev pub reciprocal : ℕ → ℕ → ℕ → ℕ → Bool
-reciprocal B D s M = leb D (M * s) && ltb (B * (M * s)) ((B + 1) * D)
+use Rattle.integers.specs.Test.{reciprocal}
 
 pub by-reciprocal : (B D s M : ℕ) → T (reciprocal B D s M) → (n : ℕ) → n ≤ B → n * M / D ≡ n / s
 by-reciprocal B D s M t n h =

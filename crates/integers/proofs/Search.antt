@@ -1,28 +1,26 @@
 -- The lowest index at which a test passes, as a loop that looks from the front finds it, and whether there is one, as a loop without an early
 -- exit does.
--- Assumes nothing.
-use mathlib.Core.Path.{_≡_, refl, sym, ap, ap₂, subst, _∙_}
-use mathlib.Core.Bool.{Bool, true, false, cond, _||_}
-use Prim.Native.Nat.{ℕ, zero, suc, _+_, _≤_, _<_, zero-le}
+use Rattle.integers.specs.Kit.{_≡_, refl, sym, ap, ap₂, subst, _∙_, Bool, true, false, cond, _||_, ℕ, zero, suc, _+_, _≤_, _<_, T, ltb}
+use Prim.Native.Nat.{zero-le}
 use native.Mathlib.Nat.{le-refl, not-suc-le-zero, lt-of-lt-of-le}
 use native.Mathlib.Decide.{ℕ-discrete, decLt}
 use native.Mathlib.Numerals.{add-one}
 use native.Mathlib.Omega.{arith}
-use lib.Dec.{T, ltb, leb·suc-suc}
+use lib.Dec.{leb·suc-suc}
 use borrow.Author.Tests.{lt-ltb, le-ltb, ltb-false}
 use Rattle.integers.specs.Search.{first, any}
 
 -- the test f fails at each index below i, and i is at most n: what a search knows at i
-pub record Passed (n : ℕ) (f : ℕ → Bool) (i : ℕ) : Type 0 where
+pub record NoneBelow (n : ℕ) (f : ℕ → Bool) (i : ℕ) : Type 0 where
   pub room : i ≤ n
   pub fails : (k : ℕ) → k < i → f k ≡ false
 
 module _ {n : ℕ} {f : ℕ → Bool} where
-  pub passed-none : Passed n f 0
-  passed-none = record { room = zero-le; fails = λ k h. absurd (not-suc-le-zero h) }
+  pub none-below-0 : NoneBelow n f 0
+  none-below-0 = record { room = zero-le; fails = λ k h. absurd (not-suc-le-zero h) }
 
-  pub passed-more : {i : ℕ} → i < n → Passed n f i → f i ≡ false → Passed n f (i + 1)
-  passed-more {i} h P e = record { room = omega arith; fails = λ k b. go k b (ℕ-discrete k i) }
+  pub none-below-more : {i : ℕ} → i < n → NoneBelow n f i → f i ≡ false → NoneBelow n f (i + 1)
+  none-below-more {i} h P e = record { room = omega arith; fails = λ k b. go k b (ℕ-discrete k i) }
     where
       go : (k : ℕ) → k < i + 1 → Dec (k ≡ i) → f k ≡ false
       go k b (yes p) = rw p e
@@ -33,7 +31,7 @@ next : (n : ℕ) (f : ℕ → Bool) → f zero ≡ false → first (suc n) f ≡
 unfolding first
 next n f e = rw e
 
-pub first-at : (n : ℕ) (f : ℕ → Bool) (i : ℕ) → i < n → Passed n f i → f i ≡ true → first n f ≡ i
+pub first-at : (n : ℕ) (f : ℕ → Bool) (i : ℕ) → i < n → NoneBelow n f i → f i ≡ true → first n f ≡ i
 unfolding first
 first-at zero f i h P e = absurd (not-suc-le-zero h)
 first-at (suc n) f zero h P e = rw e
@@ -41,7 +39,7 @@ first-at (suc n) f (suc i) h P e =
     next n f (P .fails zero (omega arith))
     ∙ ap suc (first-at n (λ k. f (suc k)) i (omega arith) (record { room = omega arith; fails = λ k b. P .fails (suc k) (omega arith) }) e)
 
-pub first-none : (n : ℕ) (f : ℕ → Bool) → Passed n f n → first n f ≡ n
+pub first-none : (n : ℕ) (f : ℕ → Bool) → NoneBelow n f n → first n f ≡ n
 unfolding first
 first-none zero f P = refl
 first-none (suc n) f P =

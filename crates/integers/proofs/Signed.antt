@@ -1,18 +1,13 @@
 -- Signed numbers in code. A signed local holds bits: what is read back of a number z is `toZ w (ofZ w z)`, which is z where z fits the
 -- width w. These laws hide that.
--- Assumes nothing.
-use mathlib.Core.Path.{_≡_, ap₂, _∙_}
-use mathlib.Core.Bool.{Bool}
-use Prim.Native.Nat.{ℕ, _+_, _^_, _≤_, _<_}
-use native.Mathlib.Nat.{lt-of-le-of-lt, lt-trans}
+use Rattle.integers.specs.Kit.{_≡_, ap₂, Bool, ℕ, _+_, _^_, _≤_, _<_, lit<, ℤ, natAbs}
+use native.Mathlib.Nat.{lt-of-le-of-lt}
 use native.Mathlib.Omega.{arith}
-use lib.Dec.{lit<}
-use lib.IntN.{ℤ, pos, _-ℤ_, negℤ, natAbs, +ℤ-idl}
 use lib.Signed.{ltZ, shrZ, mag-shr, natAbs-le}
 use mir.Syntax.{Width, w32, w64}
-use mir.Val.{Fits, SFits, hbits, ofZ, toZ}
+use mir.Val.{SFits, hbits, ofZ, toZ}
 use mir.ValLaws.{toZ-ofZ}
-use Rattle.integers.proofs.Magnitudes.{natAbs-sub, small-fits}
+use Rattle.integers.proofs.Magnitudes.{small-fits}
 
 -- a number as it is read back from the bits of an i32 and of an i64
 abbrev pub in32 : ℤ → ℤ
@@ -54,26 +49,14 @@ module _ (op : ℤ → ℤ → ℤ) (small : (x y : ℤ) → natAbs (op x y) ≤
   pub op-kept : {r : ℤ} → r ≡ op (toZ w (ofZ w x)) (toZ w (ofZ w y)) → toZ w (ofZ w r) ≡ op x y
   op-kept e = rw (e, read) (kept w (op x y) (omega (arith, small x y)))
 
--- an i32 in an i64, and its negative
+-- an i32 in an i64
 
 module _ (x : ℤ) (h : SFits w32 x) where
   size : natAbs x < 2 ^ hbits w64
   size = lt-of-le-of-lt (natAbs-le x (h .sfits)) (lit< tt)
-
-  pub magnitude-fits : Fits w64 (natAbs x)
-  magnitude-fits = record { fits = lt-trans size (lit< tt) }
 
   pub wide-fits : SFits w64 (toZ w32 (ofZ w32 x))
   wide-fits = rw (toZ-ofZ w32 x h) (small-fits w64 x size)
 
   pub wide-kept : toZ w64 (ofZ w64 (toZ w32 (ofZ w32 x))) ≡ x
   wide-kept = rw (toZ-ofZ w32 x h) (kept w64 x size)
-
-  negative-size : natAbs (pos 0 -ℤ x) < 2 ^ hbits w64
-  negative-size = omega (arith, natAbs-sub (pos 0) x, size)
-
-  pub negative-fits : SFits w64 (pos 0 -ℤ toZ w64 (ofZ w64 (toZ w32 (ofZ w32 x))))
-  negative-fits = rw wide-kept (small-fits w64 (pos 0 -ℤ x) negative-size)
-
-  pub negative-kept : toZ w64 (ofZ w64 (pos 0 -ℤ toZ w64 (ofZ w64 (toZ w32 (ofZ w32 x))))) ≡ negℤ x
-  negative-kept = rw wide-kept (kept w64 (pos 0 -ℤ x) negative-size ∙ +ℤ-idl (negℤ x))

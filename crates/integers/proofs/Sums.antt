@@ -1,11 +1,9 @@
 -- Sums over a range, in any commutative monoid: one set of laws for naturals, integers and elements.
--- Assumes nothing.
-use mathlib.Core.Path.{_≡_, refl, sym, ap, ap₂, _∙_}
-use Prim.Native.Nat.{ℕ, zero, suc, _+_, _*_, _-_, _≤_, _<_}
+use Rattle.integers.specs.Kit.{_≡_, refl, sym, ap, ap₂, _∙_, ℕ, zero, suc, _+_, _*_, _-_, _≤_, _<_, ℤ, pos, _+ℤ_, _*ℤ_, natAbs}
 use native.Mathlib.Nat.{add-zero, add-suc, add-assoc, add-comm, zero-add, zero-mul, mul-zero, suc-mul, mul-add, add-le-add, le-refl, mul-le-mul-left, not-suc-le-zero}
 use native.Mathlib.Decide.{ℕ-discrete}
 use native.Mathlib.Omega.{arith}
-use lib.IntN.{ℤ, pos, _+ℤ_, _*ℤ_, natAbs, +ℤ-comm, +ℤ-assoc, +ℤ-idl}
+use lib.IntN.{+ℤ-comm, +ℤ-assoc, +ℤ-idl}
 use Rattle.integers.specs.Sum.{sum}
 use Rattle.integers.proofs.Magnitudes.{natAbs-add, natAbs-mul}
 

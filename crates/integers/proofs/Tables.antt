@@ -1,12 +1,10 @@
 -- Lists given by a rule, and the invariant of a loop that fills a buffer from the front.
--- Assumes nothing.
-use mathlib.Core.Path.{_≡_, refl, sym, ap, ap₂, _∙_}
-use mathlib.Core.List.{List, [], _∷_}
-use Prim.Native.Nat.{ℕ, zero, suc, _+_, _≤_, _<_, zero-le}
+use Rattle.integers.specs.Kit.{_≡_, refl, sym, ap, ap₂, _∙_, List, [], _∷_, ℕ, zero, suc, _+_, _≤_, _<_, length, getD, set}
+use Prim.Native.Nat.{zero-le}
 use native.Mathlib.Omega.{arith}
 use native.Mathlib.Nat.{le-of-suc-le-suc, not-suc-le-zero}
 use native.Mathlib.Decide.{ℕ-discrete}
-use lib.ListN.{length, getD, set, length-set}
+use lib.ListN.{length-set}
 use lib.Seq.{ext-getD, getD-set-same, getD-set-other}
 use Rattle.integers.specs.Table.{table}
 
@@ -20,7 +18,7 @@ module _ {A : Type 0} where
   getD-table (suc n) f d zero h = refl
   getD-table (suc n) f d (suc k) h = getD-table n (λ j. f (suc j)) d k (le-of-suc-le-suc h)
 
-  -- a list is the table of its own elements
+  -- a list of n entries, of which entry k is f k, is the table of f
   pub is-table : (d : A) (l : List A) (n : ℕ) (f : ℕ → A) → length l ≡ n → ((k : ℕ) → k < n → getD l k d ≡ f k) → l ≡ table n f
   is-table d l n f e h =
       ext-getD d l (table n f) (e ∙ sym (length-table n f)) (λ i b. let k : i < n = rw e at b in h i k ∙ sym (getD-table n f d i k))
@@ -30,7 +28,7 @@ module _ {A : Type 0} where
   table-ext zero f g h = refl
   table-ext (suc n) f g h = ap₂ _∷_ (h zero (omega arith)) (table-ext n (λ k. f (suc k)) (λ k. g (suc k)) (λ k b. h (suc k) (omega arith)))
 
--- a list that is written out: P holds at each index
+-- P holds at each index of a list of four, and of eight, if it holds at each one by one
 
 module _ {A : Type 0} (none : A) (P : ℕ → A → Type 0) where
   pub listed-4 : {a b c d : A} → P 0 a → P 1 b → P 2 c → P 3 d → (k : ℕ) → k < 4 → P k (getD (a ∷ b ∷ c ∷ d ∷ []) k none)

@@ -1,19 +1,15 @@
 -- Tests that are computed: over all numbers below a bound, and for the equality of integers and of lists of them.
 -- A table's rule is one such test, and one of these laws turns it into the rule at each entry.
--- Assumes nothing.
-use mathlib.Core.Path.{_≡_, refl, ap, ap₂}
-use mathlib.Core.Bool.{Bool, true, false}
-use mathlib.Core.List.{List, [], _∷_}
-use Prim.Native.Nat.{ℕ, zero, suc, _<_}
+use Rattle.integers.specs.Kit.{_≡_, refl, ap, ap₂, Bool, true, false, List, [], _∷_, ℕ, zero, suc, _<_, T, ℤ, pos, negsuc}
 use native.Mathlib.Nat.{not-suc-le-zero}
 use native.Mathlib.Decide.{ℕ-discrete}
 use native.Mathlib.Omega.{arith}
-use lib.Dec.{T, eqb→eq, eqb-refl}
-use lib.IntN.{ℤ, pos, negsuc}
+use lib.Dec.{eqb→eq, eqb-refl}
 use mir.Facts.{and-yes, yes-and}
 use Rattle.integers.specs.Test.{every, eqZ, eqList}
+pub use Rattle.integers.specs.Test.{every₂, every₃}
 
--- what a test is, by what it passes for
+-- a test that passes is true, and one that does not is false
 
 pub holds : (t : Bool) → T t → t ≡ true
 holds true h = refl
@@ -36,15 +32,10 @@ pub every-passes : (n : ℕ) (f : ℕ → Bool) → ((i : ℕ) → i < n → T (
 every-passes zero f h = tt
 every-passes (suc n) f h = yes-and (f n) (every n f) (h n (omega arith)) (every-passes n f (λ i l. h i (omega arith)))
 
--- two numbers, and three
-abbrev pub every₂ : ℕ → (ℕ → ℕ → Bool) → Bool
-every₂ n f = every n (λ i. every n (f i))
+-- tests of all pairs, and of all triples, of numbers below n
 
 pub every₂-at : (n : ℕ) (f : ℕ → ℕ → Bool) → T (every₂ n f) → (i j : ℕ) → i < n → j < n → T (f i j)
 every₂-at n f t i j h k = every-at n (f i) (every-at n (λ i. every n (f i)) t i h) j k
-
-abbrev pub every₃ : ℕ → (ℕ → ℕ → ℕ → Bool) → Bool
-every₃ n f = every n (λ i. every₂ n (f i))
 
 pub every₃-at : (n : ℕ) (f : ℕ → ℕ → ℕ → Bool) → T (every₃ n f) → (i j k : ℕ) → i < n → j < n → k < n → T (f i j k)
 every₃-at n f t i j k h l m = every₂-at n (f i) (every-at n (λ i. every₂ n (f i)) t i h) j k l m

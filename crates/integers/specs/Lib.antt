@@ -1,3 +1,4 @@
+pub mod Kit
 pub mod Nearest
 pub mod Range
 pub mod Search

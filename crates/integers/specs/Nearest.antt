@@ -1,24 +1,22 @@
 -- Rounding by what it is: the whole numbers nearest to z/D, and which of two is taken at a half. The rule of the product is `Away`, with the
 -- formula `half-away`; that it gives such a number, and that no other is one: `half-away-rounded`, `only-half-away`.
-use mathlib.Core.Path.{_≡_}
-use Prim.Native.Nat.{ℕ, suc, _*_, _/_, _≤_, _<_}
-use lib.IntN.{ℤ, pos, negsuc, _+ℤ_, _-ℤ_, _*ℤ_, negℤ, natAbs}
+use Rattle.integers.specs.Kit.{_≡_, ℕ, suc, _*_, _/_, _≤_, _<_, ℤ, pos, negsuc, _+ℤ_, _-ℤ_, _*ℤ_, negℤ, natAbs}
 use lib.Signed.{_<ℤ_, shrZ}
 
 -- q is nearest to z/D: at most 1/2 away from it, said as 2·|D·q - z| ≤ D, which needs no fraction
 pub record Nearest (z : ℤ) (D : ℕ) (q : ℤ) : Type 0 where
   pub within-half : 2 * natAbs (pos D *ℤ q -ℤ z) ≤ D
 
--- q is nearest, and at a half, where two numbers are, it is the one that the rule takes: the rule says of D·q whether it may stand for z
+-- q is nearest; and at a half, where two whole numbers are, D·q stands to z as the rule for halves asks
 pub record Rounded (rule : ℤ → ℤ → Type 0) (z : ℤ) (D : ℕ) (q : ℤ) : Type 0 where
   pub nearest : Nearest z D q
   pub at-half : 2 * natAbs (pos D *ℤ q -ℤ z) ≡ D → rule z (pos D *ℤ q)
 
--- of two numbers the greater is taken
+-- a half goes up: the multiple w of D that is taken lies above z
 abbrev pub Up : ℤ → ℤ → Type 0
 Up z w = z <ℤ w
 
--- of two numbers the one further from zero is taken: a half goes away from zero
+-- a half goes away from zero: w lies further from zero than z
 abbrev pub Away : ℤ → ℤ → Type 0
 Away z w = natAbs z < natAbs w
 

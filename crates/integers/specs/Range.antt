@@ -1,9 +1,5 @@
 -- Ranges of whole numbers, both ends of which belong to them: 01 and 02 turn back a number that lies outside one.
-use mathlib.Core.Bool.{Bool, _||_}
-use mathlib.Core.List.{List}
-use Prim.Native.Nat.{ℕ}
-use lib.IntN.{ℤ, pos, negℤ}
-use lib.ListN.{getD}
+use Rattle.integers.specs.Kit.{Bool, _||_, List, ℕ, ℤ, pos, negℤ, getD}
 use lib.Signed.{ltZ}
 
 -- z lies outside the range

@@ -1,14 +1,12 @@
--- The lowest index of a kind, which 01 has a refusal name, and the lowest of those that come first in an order.
-use mathlib.Core.Bool.{Bool, cond, not, _&&_}
-use Prim.Native.Nat.{ℕ, zero, suc}
-use lib.Dec.{ltb, leb}
+-- The lowest index at which a test passes, which in 01 is the place that a refusal names; and the lowest of the indices that come first in an order.
+use Rattle.integers.specs.Kit.{Bool, cond, not, _&&_, ℕ, zero, suc, ltb, leb}
 
 -- the lowest index below n at which the test passes, and n where there is none
 unfoldable pub first : ℕ → (ℕ → Bool) → ℕ
 first zero f = zero
 first (suc n) f = cond (f zero) zero (suc (first n (λ k. f (suc k))))
 
--- there is one
+-- the test passes at some index below n
 abbrev pub any : ℕ → (ℕ → Bool) → Bool
 any n f = ltb (first n f) n
 

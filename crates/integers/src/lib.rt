@@ -1,10 +1,6 @@
-// Sum and difference of two i32 as functions, so that a store of one into an array asks only that it fits; the lower and the higher of two; the
-// magnitude of an i32, as a u64, since that of -2^31 is no i32; and which of some i32 is the first that lies outside a range.
-ghost use mathlib.Core.Path.{_≡_};
-ghost use mathlib.Core.Bool.{cond};
-ghost use Prim.Native.Nat.{_≤_};
-ghost use lib.IntN.{_+ℤ_, _-ℤ_, natAbs};
-ghost use lib.ListN.{length};
+// Sum and difference of two i32 as functions, so that where one is stored into an array only its fit is asked for; the lower and the higher of two; the
+// magnitude of an i32 and of an i64, as a u64, since that of the least is none of its type; and which of some i32 is the first that lies outside a range.
+ghost use Rattle.integers.specs.Kit.{_≡_, cond, _≤_, _+ℤ_, _-ℤ_, natAbs, length};
 ghost use lib.Signed.{ltZ};
 ghost use mir.Val.{SFits};
 ghost use mir.Syntax.{w32};
@@ -47,15 +43,21 @@ pub fn higher(x: i32, y: i32) -> i32
     x
 }
 
-// The magnitude of x. That of -2^31 is 2^31, which no i32 holds.
+// The magnitude of x. That of -2^63 is 2^63, which no i64 holds.
+pub fn wide_magnitude(x: i64) -> u64
+    ensures { λ r. ⌜ r ≡ natAbs x ⌝ }
+{
+    if x < 0 {
+        return (-1 - x) as u64 + 1;
+    }
+    x as u64
+}
+
+// The same of an i32.
 pub fn magnitude(x: i32) -> u64
     ensures { λ r. ⌜ r ≡ natAbs x ⌝ }
 {
-    let wide = x as i64;
-    if wide < 0 {
-        return (0 - wide) as u64;
-    }
-    wide as u64
+    wide_magnitude(x as i64)
 }
 
 // Whether x lies outside a range, both ends of which belong to it.

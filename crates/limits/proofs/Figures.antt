@@ -1,6 +1,5 @@
 -- The figures that the papers name, as the definitions give them.
--- Assumes nothing.
-use mathlib.Core.Path.{_≡_, refl}
+use Rattle.integers.specs.Kit.{_≡_, refl}
 use Rattle.limits.specs.Limits.{places, components-size, sample-limit, magnitudes-limit, halvings, distance-numerator, dequantized-limit}
 use Rattle.limits.specs.Limits.{magnitudes-limit-in, halvings-in, distance-numerator-in}
 

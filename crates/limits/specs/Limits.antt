@@ -1,7 +1,6 @@
 -- The limits of 01 ("Sheets", "Rounding at a width", "Why a set or sheet is turned back"), as functions of the number of dimensions d of a block
--- and of the sample limit S, and those of 02. This is the one place of each number; the constants of the code stand in src/.
-use Prim.Native.Nat.{ℕ, _+_, _-_, _*_, _/_, _^_}
-use lib.IntN.{ℤ, pos, negℤ}
+-- and of the sample limit S, and those of 02. The constants of the code, in src/, are the same.
+use Rattle.integers.specs.Kit.{ℕ, _+_, _-_, _*_, _/_, _^_, ℤ, pos, negℤ}
 
 -- the places of a block, each of a sample, an element and a coefficient
 abbrev pub places-in : ℕ → ℕ
@@ -11,7 +10,7 @@ places-in d = 8 ^ d
 abbrev pub components-in : ℕ → ℕ
 components-in d = 8 * places-in d
 
--- the largest sum of the magnitudes of an element's components, which a block's elements do not exceed (`bound` of `dct`)
+-- the largest sum of the magnitudes of an element's components, for samples of magnitudes up to S: a block's elements do not exceed it (`bound` of `dct`)
 abbrev pub magnitudes-limit-in : ℕ → ℕ → ℕ
 magnitudes-limit-in S d = S * (8 * 16 ^ (d - 1))
 
@@ -19,7 +18,8 @@ magnitudes-limit-in S d = S * (8 * 16 ^ (d - 1))
 abbrev pub halvings-in : ℕ → ℕ
 halvings-in d = 2 * d - 3
 
--- the E of demand 3's distance, 1/2 + E/2^b: each table number is off by at most a half, so that N is by at most half of the magnitudes
+-- the E of the distance that 01 promises for rounding, 1/2 + E/2^b: each table number is off by at most 1/2, so N by at most half of the magnitudes L, and
+-- N/2^(b+h) by L/2^(h+1) over 2^b. The division is exact, since L is S · 2^(4d-1).
 abbrev pub distance-numerator-in : ℕ → ℕ → ℕ
 distance-numerator-in S d = magnitudes-limit-in S d / 2 ^ (halvings-in d + 1)
 
@@ -68,6 +68,7 @@ step-limit = 1024
 abbrev pub coefficient-limit : ℕ
 coefficient-limit = 4194303
 
--- the largest magnitude of one that is dequantized: it is at most half of its divisor, 8 times the step, away from the one that was quantized
+-- the largest magnitude of one that is dequantized: it is at most 4 × step, half of the divisor 8 × step, away from the
+-- one that was quantized
 abbrev pub dequantized-limit : ℕ
 dequantized-limit = coefficient-limit + 4 * step-limit

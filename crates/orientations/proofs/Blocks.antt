@@ -1,12 +1,7 @@
 -- "Turning a block's elements gives the elements of the turned block": the elements of a block in another orientation are its elements, each at its
 -- place and with its sign. Mirroring a row changes the signs of the odd frequencies, and the transform does the same down as across.
--- Assumes nothing.
-use mathlib.Core.Path.{_≡_, sym, ap, ap₂, _∙_}
-use mathlib.Core.List.{List, []}
-use Prim.Native.Nat.{ℕ, suc, _+_, _-_, _*_, _/_, _%_, _<_}
+use Rattle.integers.specs.Kit.{_≡_, sym, ap, ap₂, _∙_, List, [], ℕ, suc, _+_, _-_, _*_, _/_, _%_, _<_, ℤ, pos, _*ℤ_, length}
 use native.Mathlib.Omega.{arith}
-use lib.IntN.{ℤ, pos, _*ℤ_}
-use lib.ListN.{length}
 use Rattle.integers.proofs.Sums.{sum-cong, sum-swap, sum-reverse}
 use Rattle.integers.proofs.Tables.{getD-table, length-table, table-ext, listed-8}
 use Rattle.limits.specs.Limits.{places, components-size}
@@ -17,10 +12,10 @@ use Rattle.dct.specs.Transform.{factor, element, double-sum, double-sum-by, mir
 use Rattle.dct.proofs.Factors.{eight-factor}
 use Rattle.dct.proofs.Halves.{mirrored}
 use Rattle.dct.proofs.Dimensions.{element-by-number, double-sum-cong, linear-double-sum}
-use Rattle.element_sets.specs.Sets.{sample, AllInRange, elements-by, elements-of}
-use Rattle.element_sets.proofs.Blocks.{element-of}
-use Rattle.orientations.specs.Orientation.{orientations, reoriented, reoriented-block, sample-at, source, sign, reoriented-elements, composed}
-use Rattle.orientations.proofs.Places.{sample-source, reoriented-index, sample-below, source-below, composed-below, composed-sample}
+use Rattle.blocks.specs.Blocks.{sample, AllInRange, elements-by, elements-of}
+use Rattle.blocks.proofs.Blocks.{element-of}
+use Rattle.orientations.specs.Orientation.{orientations, reoriented, reoriented-block, sample-at, source, sign, reoriented-elements, composed, sample-source}
+use Rattle.orientations.proofs.Places.{reoriented-index, sample-below, source-below, composed-below, composed-sample}
 
 -- 01's double sum at (u,v), mirrored and swapped
 

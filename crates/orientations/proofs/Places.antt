@@ -1,21 +1,14 @@
 -- Where samples and elements come from, and with which sign: tests that are computed, over all orientations and places, and over all pairs of
 -- orientations.
--- Assumes nothing.
-use mathlib.Core.Path.{_≡_, refl}
-use mathlib.Core.Bool.{Bool, Bool·beq, cond, not, _&&_}
-use Prim.Native.Nat.{ℕ, _+_, _*_, _/_, _%_, _<_}
-use lib.Dec.{T, eqb, ltb, eqb→eq, ltb→lt}
-use lib.IntN.{ℤ, pos, negsuc, _*ℤ_, natAbs}
+use Rattle.integers.specs.Kit.{_≡_, refl, Bool, cond, not, _&&_, ℕ, _+_, _*_, _/_, _%_, _<_, T, eqb, ltb, ℤ, pos, negsuc, _*ℤ_, natAbs}
+use mathlib.Core.Bool.{Bool·beq}
+use lib.Dec.{eqb→eq, ltb→lt}
 use mir.Facts.{and-yes}
-use Rattle.integers.specs.Test.{every, eqZ}
+use Rattle.integers.specs.Test.{every, eqZ, every₂}
 use Rattle.integers.proofs.Tables.{listed-8}
-use Rattle.integers.proofs.Tests.{every-at, every₂, every₂-at, eqZ→≡}
+use Rattle.integers.proofs.Tests.{every-at, every₂-at, eqZ→≡}
 use Rattle.limits.specs.Limits.{places}
-use Rattle.orientations.specs.Orientation.{orientations, reoriented, source, sign, composed}
-
--- the index of the sample that comes to index q
-unfoldable pub sample-source : ℕ → ℕ → ℕ
-sample-source o q = reoriented o (λ i j. 8 * i + j) (q / 8) (q % 8)
+use Rattle.orientations.specs.Orientation.{orientations, reoriented, sample-source, source, sign, composed, samples-at, sources-at, signs-at, rule-at, rule}
 
 -- an orientation goes by places, whatever stands there
 pub reoriented-index : {A : Type 0} (x : ℕ → A) (o q : ℕ) → o < orientations → reoriented o (λ i j. x (8 * i + j)) (q / 8) (q % 8) ≡ x (sample-source o q)
@@ -32,34 +25,22 @@ everywhere f = every orientations (λ o. every places (f o))
 everywhere-at : (f : ℕ → ℕ → Bool) → T (everywhere f) → (o p : ℕ) → o < orientations → p < places → T (f o p)
 everywhere-at f t o p h l = every-at places (f o) (every-at orientations (λ o. every places (f o)) t o h) p l
 
-sample-below-test : T (everywhere (λ o q. ltb (sample-source o q) places))
-unfolding reoriented sample-source
-sample-below-test = tt
-
 pub sample-below : (o q : ℕ) → o < orientations → q < places → sample-source o q < places
-sample-below o q h l = ltb→lt (sample-source o q) places (everywhere-at (λ o q. ltb (sample-source o q) places) sample-below-test o q h l)
-
-source-below-test : T (everywhere (λ o p. ltb (source o p) places))
-unfolding source
-source-below-test = tt
+unfolding reoriented sample-source
+sample-below o q h l = ltb→lt (sample-source o q) places (everywhere-at (λ o q. ltb (sample-source o q) places) tt o q h l)
 
 pub source-below : (o p : ℕ) → o < orientations → p < places → source o p < places
-source-below o p h l = ltb→lt (source o p) places (everywhere-at (λ o p. ltb (source o p) places) source-below-test o p h l)
+unfolding source
+source-below o p h l = ltb→lt (source o p) places (everywhere-at (λ o p. ltb (source o p) places) tt o p h l)
 
 -- an element that goes to a place comes back from there
-source-twice-test : T (everywhere (λ o p. eqb (source o (source o p)) p))
-unfolding source
-source-twice-test = tt
-
 pub source-twice : (o p : ℕ) → o < orientations → p < places → source o (source o p) ≡ p
-source-twice o p h l = eqb→eq (source o (source o p)) p (everywhere-at (λ o p. eqb (source o (source o p)) p) source-twice-test o p h l)
-
-sign-one-test : T (everywhere (λ o p. eqb (natAbs (sign o p)) 1))
-unfolding sign
-sign-one-test = tt
+unfolding source
+source-twice o p h l = eqb→eq (source o (source o p)) p (everywhere-at (λ o p. eqb (source o (source o p)) p) tt o p h l)
 
 pub sign-one : (o p : ℕ) → o < orientations → p < places → natAbs (sign o p) ≡ 1
-sign-one o p h l = eqb→eq (natAbs (sign o p)) 1 (everywhere-at (λ o p. eqb (natAbs (sign o p)) 1) sign-one-test o p h l)
+unfolding sign
+sign-one o p h l = eqb→eq (natAbs (sign o p)) 1 (everywhere-at (λ o p. eqb (natAbs (sign o p)) 1) tt o p h l)
 
 -- the sign as the code makes it
 abbrev pub code-sign : ℕ → ℕ → ℤ
@@ -68,29 +49,11 @@ code-sign o p =
     let down = eqb (o / 2 % 2) 1 && eqb (p / 8 % 2) 1 in
     cond (not (Bool·beq across down)) (negsuc 0) (pos 1)
 
-code-sign-test : T (everywhere (λ o p. eqZ (sign o p) (code-sign o p)))
-unfolding sign
-code-sign-test = tt
-
 pub sign-code : (o p : ℕ) → o < orientations → p < places → sign o p ≡ code-sign o p
-sign-code o p h l = eqZ→≡ (sign o p) (code-sign o p) (everywhere-at (λ o p. eqZ (sign o p) (code-sign o p)) code-sign-test o p h l)
+unfolding sign
+sign-code o p h l = eqZ→≡ (sign o p) (code-sign o p) (everywhere-at (λ o p. eqZ (sign o p) (code-sign o p)) tt o p h l)
 
--- one orientation after another: the rule of the table, of the places of samples, of the places of elements and of their signs
-
-abbrev samples-at : ℕ → ℕ → ℕ → Bool
-samples-at a b q = eqb (sample-source a (sample-source b q)) (sample-source (composed a b) q)
-
-abbrev sources-at : ℕ → ℕ → ℕ → Bool
-sources-at a b p = eqb (source a (source b p)) (source (composed a b) p)
-
-abbrev signs-at : ℕ → ℕ → ℕ → Bool
-signs-at a b p = eqZ (sign b p *ℤ sign a (source b p)) (sign (composed a b) p)
-
-abbrev rule-at : ℕ → ℕ → ℕ → Bool
-rule-at a b p = samples-at a b p && (sources-at a b p && signs-at a b p)
-
-abbrev rule : ℕ → ℕ → Bool
-rule a b = ltb (composed a b) orientations && every places (rule-at a b)
+-- one orientation after another
 
 composition : T (every₂ orientations rule)
 unfolding reoriented sample-source source sign composed

@@ -1,17 +1,11 @@
 -- Accepted sets in another orientation: each element once, sets again accepted, and one orientation after another.
--- Assumes nothing.
-use mathlib.Core.Path.{_≡_, sym, ap, _∙_}
-use mathlib.Core.List.{List}
-use Prim.Native.Nat.{ℕ, _+_, _*_, _/_, _%_, _≤_, _<_}
+use Rattle.integers.specs.Kit.{_≡_, sym, ap, _∙_, List, ℕ, _+_, _*_, _/_, _%_, _≤_, _<_, lit≤, ℤ, pos, length, getD}
 use native.Mathlib.Nat.{one-mul, le-trans}
 use native.Mathlib.Omega.{arith}
-use lib.Dec.{lit≤}
-use lib.IntN.{ℤ, pos}
-use lib.ListN.{length, getD}
 use Rattle.integers.proofs.Tables.{is-table, length-table, table-ext}
 use Rattle.limits.specs.Limits.{places, components-size, magnitudes-limit}
-use Rattle.ring.specs.Element.{component, scale, magnitudes}
-use Rattle.ring.proofs.Components.{Eight, eight-scale}
+use Rattle.ring.specs.Element.{component, scale, magnitudes, Eight}
+use Rattle.ring.proofs.Components.{eight-scale}
 use Rattle.ring.proofs.Linear.{scale-one, scale-scale}
 use Rattle.ring.proofs.Magnitude.{component-le, magnitudes-scale}
 use Rattle.elements.specs.Bound.{Within, headroom}

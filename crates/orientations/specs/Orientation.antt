@@ -1,16 +1,12 @@
 -- The orientations of a block (02, request 1): of its samples, in 02's words; of its elements, by place and sign; and one after another.
-use mathlib.Core.Bool.{cond}
-use mathlib.Core.List.{List, [], _∷_, _++_}
-use Prim.Native.Nat.{ℕ, _+_, _-_, _*_, _/_, _%_}
-use lib.Dec.{ltb}
-use lib.IntN.{ℤ, pos, _*ℤ_}
-use lib.ListN.{getD}
+use Rattle.integers.specs.Kit.{Bool, cond, _&&_, List, [], _∷_, _++_, ℕ, _+_, _-_, _*_, _/_, _%_, eqb, ltb, ℤ, pos, _*ℤ_, getD}
 use Rattle.integers.specs.Table.{table}
+use Rattle.integers.specs.Test.{every, eqZ}
 use Rattle.limits.specs.Limits.{places, components-size}
 use Rattle.ring.specs.Element.{component, scale}
 use Rattle.dct.specs.Transform.{mirror-sign}
 use Rattle.elements.specs.Buffer.{element-at}
-use Rattle.element_sets.specs.Sets.{sample}
+use Rattle.blocks.specs.Blocks.{sample}
 
 -- they are 0 to 7
 abbrev pub orientations : ℕ
@@ -48,6 +44,10 @@ sample-at x i j = sample x (8 * i + j)
 unfoldable pub reoriented-block : ℕ → List ℤ → List ℤ
 reoriented-block o x = table places (λ q. reoriented o (sample-at x) (q / 8) (q % 8))
 
+-- the index of the sample that comes to index q
+unfoldable pub sample-source : ℕ → ℕ → ℕ
+sample-source o q = reoriented o (λ i j. 8 * i + j) (q / 8) (q % 8)
+
 -- elements: mirroring left and right changes the sign where v is odd, top and bottom where u is odd, and the swap exchanges (u,v) and (v,u)
 
 -- the number of the element that comes to the place p = 8u+v
@@ -82,3 +82,20 @@ compositions =
 -- "the turn that an 8 by 8 table names"
 unfoldable pub composed : ℕ → ℕ → ℕ
 composed first second = getD (getD compositions first []) second 0
+
+-- the rule of the table: of the places of samples, of the places of elements and of their signs
+
+abbrev pub samples-at : ℕ → ℕ → ℕ → Bool
+samples-at a b q = eqb (sample-source a (sample-source b q)) (sample-source (composed a b) q)
+
+abbrev pub sources-at : ℕ → ℕ → ℕ → Bool
+sources-at a b p = eqb (source a (source b p)) (source (composed a b) p)
+
+abbrev pub signs-at : ℕ → ℕ → ℕ → Bool
+signs-at a b p = eqZ (sign b p *ℤ sign a (source b p)) (sign (composed a b) p)
+
+abbrev pub rule-at : ℕ → ℕ → ℕ → Bool
+rule-at a b p = samples-at a b p && (sources-at a b p && signs-at a b p)
+
+abbrev pub rule : ℕ → ℕ → Bool
+rule a b = ltb (composed a b) orientations && every places (rule-at a b)

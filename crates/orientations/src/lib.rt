@@ -1,11 +1,7 @@
 // The orientations of a block (02, request 1), on its elements: each comes from one place, as itself or as its negative.
 //
 // 32 bits suffice: in an accepted set no component is above the limit of an element's magnitudes, and its negative is as large.
-ghost use mathlib.Core.Path.{_≡_};
-ghost use mathlib.Core.Bool.{cond};
-ghost use Prim.Native.Nat.{_<_};
-ghost use lib.IntN.{negsuc, pos};
-ghost use lib.ListN.{length};
+ghost use Rattle.integers.specs.Kit.{_≡_, cond, _<_, negsuc, pos, length};
 ghost use Rattle.limits.specs.Limits.{components-size, magnitudes-limit, places};
 ghost use Rattle.ring.specs.Element as ring;
 ghost use Rattle.elements.specs.Bound.{Within, headroom};
@@ -20,7 +16,7 @@ use limits::PLACES;
 // There are eight, 0 to 7.
 pub const ORIENTATIONS: u32 = 8;
 
-// Which orientation the first is, followed by the second.
+// The orientation that the first, which names the row, is when followed by the second, which names the column.
 const COMPOSITIONS: [[usize; 8]; 8] = [
     [0, 1, 2, 3, 4, 5, 6, 7],
     [1, 0, 3, 2, 6, 7, 4, 5],

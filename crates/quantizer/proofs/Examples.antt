@@ -1,9 +1,6 @@
--- Examples, computed from the definitions: halves of both signs, numbers beside them, the greatest dequantized coefficient, and the first places of
+-- Examples, computed from the definitions: halves of both signs, numbers beside them, a dequantized coefficient near its limit, and the first places of
 -- the zig-zag order, which are (0,0), (0,1), (1,0), (2,0), (1,1), (0,2), and its last one, (7,7).
--- Assumes nothing.
-use mathlib.Core.Path.{_≡_, refl}
-use mathlib.Core.List.{[], _∷_}
-use lib.IntN.{pos, negsuc}
+use Rattle.integers.specs.Kit.{_≡_, refl, [], _∷_, pos, negsuc}
 use Rattle.integers.specs.Nearest.{half-up, half-away}
 use Rattle.integers.specs.Table.{table}
 use Rattle.quantizer.specs.Quantizer.{quantized, dequantized}

@@ -1,14 +1,9 @@
 -- One coefficient and its step: its quantized value by magnitude and sign, the dequantized coefficient, and there and back again.
--- Assumes nothing.
-use mathlib.Core.Path.{_≡_, sym, ap, subst}
-use mathlib.Core.Bool.{true, false}
-use mathlib.Core.List.{List}
-use Prim.Native.Nat.{ℕ, zero, suc, _+_, _*_, _/_, _^_, _≤_, _<_, zero-le}
+use Rattle.integers.specs.Kit.{_≡_, sym, ap, subst, true, false, List, ℕ, zero, suc, _+_, _*_, _/_, _^_, _≤_, _<_, T, lit<, ℤ, pos, negsuc, _-ℤ_, negℤ, natAbs, getD}
+use Prim.Native.Nat.{zero-le}
 use native.Mathlib.Nat.{lt-of-le-of-lt, mul-le-mul, not-suc-le-zero}
 use native.Mathlib.Omega.{arith}
-use lib.Dec.{T, lit<}
-use lib.IntN.{ℤ, pos, negsuc, _-ℤ_, negℤ, natAbs, +ℤ-invr, -ℤ-+ℤ-cancel}
-use lib.ListN.{getD}
+use lib.IntN.{+ℤ-invr, -ℤ-+ℤ-cancel}
 use lib.Signed.{ltZ, natAbs-le}
 use mir.Syntax.{w32}
 use mir.Val.{SFits}

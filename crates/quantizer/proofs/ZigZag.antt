@@ -1,12 +1,7 @@
 -- The zig-zag order is a permutation of the 64 places: each index has one place, and each place one index.
--- Assumes nothing.
-use mathlib.Core.Path.{_≡_}
-use mathlib.Core.Bool.{Bool, _&&_}
-use mathlib.Core.List.{List}
-use Prim.Native.Nat.{ℕ, _*_, _<_}
+use Rattle.integers.specs.Kit.{_≡_, _&&_, List, ℕ, _*_, _<_, T, eqb, ltb, getD}
 use native.Mathlib.Omega.{arith}
-use lib.Dec.{T, eqb, ltb, eqb→eq, ltb→lt}
-use lib.ListN.{getD}
+use lib.Dec.{eqb→eq, ltb→lt}
 use mir.Facts.{and-yes}
 use mir.Syntax.{w64}
 use mir.Val.{Fits}
@@ -15,13 +10,7 @@ use Rattle.integers.specs.Test.{every}
 use Rattle.integers.proofs.Tables.{getD-table}
 use Rattle.integers.proofs.Tests.{every-at}
 use Rattle.limits.specs.Limits.{places}
-use Rattle.quantizer.specs.ZigZag.{place-at, index-of, indices-by-row}
-
-abbrev index-rule : ℕ → Bool
-index-rule k = ltb (place-at k) places && eqb (index-of (place-at k)) k
-
-abbrev place-rule : ℕ → Bool
-place-rule p = ltb (index-of p) places && eqb (place-at (index-of p)) p
+use Rattle.quantizer.specs.ZigZag.{place-at, index-of, index-rule, place-rule, indices-by-row}
 
 -- both rules, computed over the whole order
 permutation : T (every places (λ k. index-rule k && place-rule k))

@@ -1,10 +1,5 @@
 -- Quantization of a coefficient (02, request 2, as T.81 A.3.4), and 02's way back from it, dequantization.
-use mathlib.Core.Path.{_≡_}
-use mathlib.Core.Bool.{Bool, false}
-use mathlib.Core.List.{List}
-use Prim.Native.Nat.{ℕ, _*_, _<_}
-use lib.IntN.{ℤ, pos, _*ℤ_}
-use lib.ListN.{length, getD}
+use Rattle.integers.specs.Kit.{_≡_, Bool, false, List, ℕ, _*_, _<_, ℤ, pos, _*ℤ_, length, getD}
 use Rattle.integers.specs.Nearest.{half-away}
 use Rattle.integers.specs.Range.{outside}
 use Rattle.limits.specs.Limits.{places, step-limit}
@@ -16,7 +11,7 @@ use Rattle.quantizer.specs.ZigZag.{index-of}
 abbrev pub step-outside : ℕ → Bool
 step-outside step = outside (pos 1) (pos step-limit) (pos step)
 
--- at the index k of a list
+-- cause 10 of the step at index k of a list
 abbrev pub step-outside-at : List ℕ → ℕ → Bool
 step-outside-at steps k = step-outside (getD steps k 0)
 
@@ -31,7 +26,7 @@ step-of steps p = getD steps (index-of p) 0
 
 -- a coefficient in eighths and its step
 
--- "8 × step"
+-- "8 × step": T.81 divides by the step, and a coefficient in eighths is 8 times T.81's
 abbrev pub divisor : ℕ → ℕ
 divisor step = 8 * step
 

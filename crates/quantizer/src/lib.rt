@@ -1,10 +1,7 @@
-// Quantization of one coefficient by its step (02, request 2), and dequantization; and which quantization step of the list is whose.
+// Quantization of one coefficient by its step (02, request 2), and dequantization; and which quantization step of the list belongs to which place.
 //
-// 32 bits suffice for the quotient: a magnitude and half of its divisor are at most 4,198,399. A product on the way back has a magnitude of up to 2^44.
-ghost use mathlib.Core.Path.{_≡_};
-ghost use Prim.Native.Nat.{_<_, _+_, _*_, _/_, _≤_};
-ghost use lib.IntN.{natAbs};
-ghost use lib.ListN.{length};
+// 32 bits suffice for the quotient: a magnitude plus half of its divisor is at most 4,198,399. A product in dequantization has a magnitude of up to 2^44.
+ghost use Rattle.integers.specs.Kit.{_≡_, _<_, _+_, _*_, _/_, _≤_, natAbs, length};
 ghost use Rattle.integers.specs.Range.{beyond};
 ghost use Rattle.integers.specs.Search.{any, first};
 ghost use Rattle.limits.specs.Limits.{coefficient-limit, dequantized-limit, places, step-limit};
@@ -97,7 +94,7 @@ fn step_outside(step: u32) -> bool
     (step < 1) | (STEP_LIMIT < step)
 }
 
-// Whether any of 64 steps is. The loop has no early exit, so that the compiler takes several at a time.
+// Whether any of 64 steps is out of range. The loop has no early exit, so that the compiler takes several at a time.
 fn any_step_outside(steps: &[u32]) -> bool
     requires { ⌜ length (now steps) ≡ places ⌝ }
     ensures { λ r. ⌜ r ≡ any places (spec.step-outside-at (now (steps .entry))) ⌝ }
@@ -111,7 +108,7 @@ fn any_step_outside(steps: &[u32]) -> bool
     r
 }
 
-// The lowest index of one that is, and 64 where there is none; one after the other is looked at only where there is one.
+// The lowest index of a step out of range, and 64 where there is none. The search is made only where `any_step_outside` says that there is one.
 pub fn first_step_outside(steps: &[u32]) -> usize
     requires { ⌜ length (now steps) ≡ places ⌝ }
     ensures { λ r. ⌜ r ≡ first places (spec.step-outside-at (now (steps .entry))) ⌝ }

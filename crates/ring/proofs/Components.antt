@@ -1,14 +1,9 @@
 -- Elements by their components: which operations keep all eight, what a component of a result is, and that an element is the
 -- combination of 1 and c_1 to c_7 by its components.
--- Assumes nothing.
-use mathlib.Core.Path.{_≡_, refl, sym, ap, _∙_}
-use mathlib.Core.Bool.{Bool}
-use mathlib.Core.List.{List, [], _∷_}
-use Prim.Native.Nat.{ℕ, zero, suc, _%_, _<_}
+use Rattle.integers.specs.Kit.{_≡_, refl, sym, ap, _∙_, Bool, List, [], _∷_, ℕ, zero, suc, _%_, _<_, T, eqb, ℤ, pos, negsuc, _+ℤ_, _-ℤ_, _*ℤ_, negℤ, natAbs, length}
 use native.Mathlib.Omega.{arith}
-use lib.Dec.{T, eqb, eqb→eq}
-use lib.IntN.{ℤ, pos, negsuc, _+ℤ_, _-ℤ_, _*ℤ_, negℤ, natAbs, +ℤ-idl, +ℤ-idr, *ℤ-zero}
-use lib.ListN.{length}
+use lib.Dec.{eqb→eq}
+use lib.IntN.{+ℤ-idl, +ℤ-idr, *ℤ-zero}
 use lib.Seq.{ext-getD}
 use borrow.Author.Tests.{lt-ltb}
 use Rattle.integers.specs.Sum.{sum}
@@ -18,13 +13,11 @@ use Rattle.integers.proofs.Integer.{*ℤ-pos1, minus-one-*ℤ}
 use Rattle.integers.proofs.Tables.{is-table, length-table, getD-table}
 use Rattle.integers.proofs.Tests.{every-at, eqList→≡}
 use Rattle.ring.specs.Element.{component, add, scale, negate, only, full-turn, cosine, by-rule, basis-product, combine, mul}
-use Rattle.ring.proofs.Linear.{Linear, LinearMap, LinearForm, linear-agree, add-nil}
+pub use Rattle.ring.specs.Element.{Eight}
+use Rattle.ring.specs.Maps.{Linear, LinearMap, LinearForm}
+use Rattle.ring.proofs.Linear.{linear-agree, add-nil}
 
 -- elements with all of their components
-
--- a record, so that the element can be inferred
-pub record Eight (a : List ℤ) : Type 0 where
-  pub eight : length a ≡ 8
 
 length-add : (n : ℕ) (a b : List ℤ) → length a ≡ n → length b ≡ n → length (add a b) ≡ n
 length-add n [] b p q = q
@@ -121,7 +114,7 @@ same-components {a} {b} p q h = ext-getD (pos 0) a b (p .eight ∙ sym (q .eight
 pub by-components : {a : List ℤ} → Eight a → a ≡ table 8 (component a)
 by-components {a} e = is-table (pos 0) a 8 (component a) (e .eight) (λ k h. refl)
 
--- an element is what its components count
+-- an element is the sum of the basis elements, each times its component
 
 expand-table : (u : ℕ → ℤ) → combine (only (pos 1)) (table 8 u) ≡ table 8 u
 expand-table u = simp (*ℤ-zero, *ℤ-pos1, +ℤ-idl, +ℤ-idr)
@@ -129,7 +122,7 @@ expand-table u = simp (*ℤ-zero, *ℤ-pos1, +ℤ-idl, +ℤ-idr)
 pub expand : {a : List ℤ} → Eight a → combine (only (pos 1)) a ≡ a
 expand {a} e = rw (by-components e) (expand-table (component a))
 
--- the component that counts c_k, for k from 1 to 7
+-- c_k is the basis element k, for k from 1 to 7
 basis-test : T (every 7 (λ k. eqList (cosine (pos (suc k))) (only (pos 1) (suc k))))
 unfolding cosine
 basis-test = tt

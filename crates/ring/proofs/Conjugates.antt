@@ -1,20 +1,15 @@
 -- Conjugation is an automorphism of the ring: it is linear, it takes products to products, it fixes the whole numbers, and eight of it change nothing.
--- Assumes nothing.
-use mathlib.Core.Path.{_≡_, sym, ap, _∙_}
-use mathlib.Core.Bool.{Bool}
-use mathlib.Core.List.{List, [], _∷_}
-use Prim.Native.Nat.{ℕ, _<_}
-use lib.Dec.{T}
-use lib.IntN.{ℤ, pos, negℤ, +ℤ-idl, +ℤ-idr, *ℤ-zero}
+use Rattle.integers.specs.Kit.{_≡_, sym, ap, _∙_, Bool, List, [], _∷_, ℕ, _<_, T, ℤ, pos, negℤ}
+use lib.IntN.{+ℤ-idl, +ℤ-idr, *ℤ-zero}
 use Rattle.integers.specs.Table.{table}
-use Rattle.integers.specs.Test.{every, eqList}
+use Rattle.integers.specs.Test.{every, eqList, every₂}
 use Rattle.integers.proofs.Integer.{*ℤ-pos1, *ℤ-minus-one}
-use Rattle.integers.proofs.Tests.{every-at, every₂, every₂-at, eqList→≡}
-use Rattle.ring.specs.Element.{component, only, integer, cosine, basis-product, mul}
-use Rattle.ring.specs.Maps.{fivefold, conjugate}
-use Rattle.ring.proofs.Linear.{LinearMap, linear-self, linear-after, linear-combination}
+use Rattle.integers.proofs.Tests.{every-at, every₂-at, eqList→≡}
+use Rattle.ring.specs.Element.{component, only, integer, cosine, basis-product, mul, Eight}
+use Rattle.ring.specs.Maps.{fivefold, conjugate, four-conjugates, LinearMap}
+use Rattle.ring.proofs.Linear.{linear-self, linear-after, linear-combination}
 use Rattle.ring.proofs.Product.{mul-left, mul-right}
-use Rattle.ring.proofs.Components.{Eight, by-components, linear-same}
+use Rattle.ring.proofs.Components.{by-components, linear-same}
 use Rattle.ring.proofs.Ring.{scale-integer}
 
 pub linear-conjugate : LinearMap conjugate
@@ -59,17 +54,14 @@ conjugate-components {a} e = ap conjugate (by-components e) ∙ conjugate-table 
 
 -- it has an inverse: seven more of it
 
-abbrev four-times : List ℤ → List ℤ
-four-times a = conjugate (conjugate (conjugate (conjugate a)))
+linear-four : LinearMap four-conjugates
+linear-four = let twice = linear-after linear-conjugate linear-conjugate in linear-after twice twice
 
-linear-four-times : LinearMap four-times
-linear-four-times = let twice = linear-after linear-conjugate linear-conjugate in linear-after twice twice
-
-basis-test : T (every 8 (λ k. eqList (four-times (four-times (only (pos 1) k))) (only (pos 1) k)))
+basis-test : T (every 8 (λ k. eqList (four-conjugates (four-conjugates (only (pos 1) k))) (only (pos 1) k)))
 unfolding conjugate cosine
 basis-test = tt
 
-pub conjugate-eight-times : {a : List ℤ} → Eight a → four-times (four-times a) ≡ a
+pub conjugate-eight-times : {a : List ℤ} → Eight a → four-conjugates (four-conjugates a) ≡ a
 conjugate-eight-times =
-    linear-same (λ a. four-times (four-times a)) (λ a. a) (linear-after linear-four-times linear-four-times) linear-self
-    (λ k h. eqList→≡ _ _ (every-at 8 (λ k. eqList (four-times (four-times (only (pos 1) k))) (only (pos 1) k)) basis-test k h))
+    linear-same (λ a. four-conjugates (four-conjugates a)) (λ a. a) (linear-after linear-four linear-four) linear-self
+    (λ k h. eqList→≡ _ _ (every-at 8 (λ k. eqList (four-conjugates (four-conjugates (only (pos 1) k))) (only (pos 1) k)) basis-test k h))

@@ -1,16 +1,12 @@
 -- The rules of the cosines, each for all whole numbers (01, "Elements"). c_(-m) = c_m is `Product.cosine-neg`.
--- Assumes nothing.
-use mathlib.Core.Path.{_≡_, refl, sym, ap, ap₂, _∙_}
-use mathlib.Core.Bool.{Bool}
-use Prim.Native.Nat.{ℕ, suc, _+_, _-_, _%_, _≤_}
+use Rattle.integers.specs.Kit.{_≡_, refl, sym, ap, ap₂, _∙_, Bool, ℕ, suc, _+_, _-_, _%_, _≤_, T, ℤ, pos, negsuc, _+ℤ_, _-ℤ_, negℤ}
 use native.Mathlib.Nat.{add-mod}
 use native.Mathlib.Decide.{decLe}
 use native.Mathlib.Omega.{arith}
-use lib.Dec.{T}
-use lib.IntN.{ℤ, pos, negsuc, _+ℤ_, _-ℤ_, negℤ, +ℤ-comm, +ℤ-assoc, +ℤ-negℤ-cancel, +ℤ-invr, negℤ-+ℤ, negℤ-negℤ}
-use Rattle.integers.specs.Test.{eqList}
+use lib.IntN.{+ℤ-comm, +ℤ-assoc, +ℤ-negℤ-cancel, +ℤ-invr, negℤ-+ℤ, negℤ-negℤ}
+use Rattle.integers.specs.Test.{eqList, every₂}
 use Rattle.integers.proofs.Integer.{sub-sub}
-use Rattle.integers.proofs.Tests.{every₂, every₂-at, eqList→≡}
+use Rattle.integers.proofs.Tests.{every₂-at, eqList→≡}
 use Rattle.ring.specs.Element.{add, negate, subtract, integer, full-turn, cosine, basis-product, mul}
 use Rattle.ring.proofs.Linear.{add-comm, scale-scale, scale-one}
 use Rattle.ring.proofs.Product.{cosine-neg, cosine-difference, mul-comm}
@@ -22,7 +18,7 @@ use Rattle.ring.proofs.Ring.{negative-of, mul-integer, scale-zero}
 record Rule (i j : ℤ) : Type 0 where
   holds : mul (cosine i) (cosine j) ≡ add (cosine (i +ℤ j)) (cosine (i -ℤ j))
 
--- a turn has 32 steps: the rule at e + s and s
+-- the rule of products by e = i - j and s = j, both modulo 32: c_(e+s) × c_s = c_(e+2s) + c_e
 rule-at : ℕ → ℕ → Bool
 rule-at e s = eqList (mul (full-turn ((e + s) % 32)) (full-turn s)) (add (full-turn (((e + s) % 32 + s) % 32)) (full-turn e))
 

@@ -1,23 +1,18 @@
--- The product by components, and what it says of component 0 of a ring product: that of a × b is twice the product by components where b has
--- no whole part.
--- Assumes nothing.
-use mathlib.Core.Path.{_≡_, refl, sym, ap, ap₂, _∙_}
-use mathlib.Core.Bool.{Bool, _||_}
-use mathlib.Core.List.{List, [], _∷_}
-use Prim.Native.Nat.{ℕ, _%_, _<_}
+-- The dot product of the components. Component 0 of a × c_m, for m no multiple of 8, is twice the dot product of a and c_m; the dot product with c_k is
+-- component k.
+use Rattle.integers.specs.Kit.{_≡_, refl, sym, ap, ap₂, _∙_, Bool, _||_, List, [], _∷_, ℕ, _%_, _<_, T, eqb, ℤ, pos, negsuc, _+ℤ_, _*ℤ_, negℤ}
 use native.Mathlib.Omega.{arith}
-use lib.Dec.{T, eqb}
-use lib.IntN.{ℤ, pos, negsuc, _+ℤ_, _*ℤ_, negℤ, +ℤ-comm, +ℤ-assoc, +ℤ-idl, *ℤ-zero, *ℤ-comm}
+use lib.IntN.{+ℤ-comm, +ℤ-assoc, +ℤ-idl, *ℤ-zero, *ℤ-comm}
 use borrow.Author.Tests.{ne-eqb}
 use Rattle.integers.specs.Test.{every, eqZ}
 use Rattle.integers.proofs.Integer.{*ℤ-assoc, *ℤ-+ℤ, +ℤ-*ℤ, minus-one-*ℤ}
 use Rattle.integers.proofs.Sums.{swap}
 use Rattle.integers.proofs.Tests.{every-at, eqZ→≡}
-use Rattle.ring.specs.Element.{component, add, scale, negate, only, full-turn, cosine, basis-product, mul}
-use Rattle.ring.specs.Maps.{dot}
-use Rattle.ring.proofs.Linear.{LinearForm, linear-self}
+use Rattle.ring.specs.Element.{component, add, scale, negate, only, full-turn, cosine, basis-product, mul, Eight}
+use Rattle.ring.specs.Maps.{dot, LinearForm}
+use Rattle.ring.proofs.Linear.{linear-self}
 use Rattle.ring.proofs.Product.{mul-left}
-use Rattle.ring.proofs.Components.{Eight, form-component, linear-same}
+use Rattle.ring.proofs.Components.{form-component, linear-same}
 use Rattle.ring.proofs.Forms.{form-times}
 
 dot-nil : (a : List ℤ) → dot a [] ≡ pos 0

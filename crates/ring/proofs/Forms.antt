@@ -1,18 +1,15 @@
 -- Linear forms: whole numbers that are made linearly of an element's components.
--- Assumes nothing.
-use mathlib.Core.Path.{_≡_, refl, sym, ap, ap₂, _∙_}
-use mathlib.Core.Bool.{Bool, true, false, cond}
-use mathlib.Core.List.{List, []}
-use lib.IntN.{ℤ, pos, _+ℤ_, _*ℤ_, negℤ, +ℤ-comm, +ℤ-assoc, *ℤ-comm, *ℤ-zero, negℤ-+ℤ}
+use Rattle.integers.specs.Kit.{_≡_, refl, sym, ap, ap₂, _∙_, Bool, true, false, cond, List, [], ℤ, pos, _+ℤ_, _*ℤ_, negℤ}
+use lib.IntN.{+ℤ-comm, +ℤ-assoc, *ℤ-comm, *ℤ-zero, negℤ-+ℤ}
 use Rattle.integers.proofs.Integer.{*ℤ-assoc, *ℤ-+ℤ, *ℤ-negℤ}
 use Rattle.integers.proofs.Sums.{swap}
 use Rattle.ring.specs.Element.{add, scale}
-use Rattle.ring.proofs.Linear.{LinearForm}
+use Rattle.ring.specs.Maps.{LinearForm}
 
 pub form-none : LinearForm (λ a. pos 0)
 form-none = record { nil = refl; sums = λ a b. refl; multiples = λ s a. sym (*ℤ-zero s) }
 
--- a map that is a linear form at each element is one
+-- a map that equals a linear form at each element is a linear form
 pub form-same : {φ ψ : List ℤ → ℤ} → ((a : List ℤ) → φ a ≡ ψ a) → LinearForm ψ → LinearForm φ
 form-same {φ} {ψ} e l = record {
   nil = e [] ∙ l .nil;

@@ -1,15 +1,13 @@
 -- Sums, multiples and combinations of elements, and linear maps. All laws hold of lists of any length.
--- Assumes nothing.
-use mathlib.Core.Path.{_≡_, refl, sym, ap, ap₂, _∙_, fun-ext}
-use mathlib.Core.List.{List, [], _∷_}
-use Prim.Native.Nat.{ℕ, zero, suc, _<_}
+use Rattle.integers.specs.Kit.{_≡_, refl, sym, ap, ap₂, _∙_, List, [], _∷_, ℕ, zero, suc, _<_, ℤ, pos, _+ℤ_, _*ℤ_, length}
+use mathlib.Core.Path.{fun-ext}
 use native.Mathlib.Omega.{arith}
-use lib.IntN.{ℤ, pos, _+ℤ_, _*ℤ_, +ℤ-comm, +ℤ-assoc, *ℤ-comm}
-use lib.ListN.{length}
+use lib.IntN.{+ℤ-comm, +ℤ-assoc, *ℤ-comm}
 use Rattle.integers.specs.Sum.{sum}
 use Rattle.integers.proofs.Integer.{*ℤ-pos1, *ℤ-assoc, *ℤ-+ℤ, +ℤ-*ℤ}
 use Rattle.integers.proofs.Sums.{CommutativeMonoid, swap, sum-map}
 use Rattle.ring.specs.Element.{add, scale, combine}
+pub use Rattle.ring.specs.Maps.{Linear, LinearMap, LinearForm}
 
 -- sums and multiples
 
@@ -49,17 +47,6 @@ scale-one [] = refl
 scale-one (x ∷ a) = ap₂ _∷_ (*ℤ-comm (pos 1) x ∙ *ℤ-pos1 x) (scale-one a)
 
 -- linear maps, into elements or into whole numbers
-
-pub record Linear {B : Type 0} (none : B) (plus : B → B → B) (times : ℤ → B → B) (L : List ℤ → B) : Type 0 where
-  pub nil : L [] ≡ none
-  pub sums : (a b : List ℤ) → L (add a b) ≡ plus (L a) (L b)
-  pub multiples : (s : ℤ) (a : List ℤ) → L (scale s a) ≡ times s (L a)
-
-abbrev pub LinearMap : (List ℤ → List ℤ) → Type 0
-LinearMap L = Linear [] add scale L
-
-abbrev pub LinearForm : (List ℤ → ℤ) → Type 0
-LinearForm φ = Linear (pos 0) _+ℤ_ _*ℤ_ φ
 
 pub linear-self : LinearMap (λ a. a)
 linear-self = record { nil = refl; sums = λ a b. refl; multiples = λ s a. refl }

@@ -1,20 +1,17 @@
 -- The sum of the magnitudes of an element's components, and how large a linear form can get where no component is large.
--- Assumes nothing.
-use mathlib.Core.Path.{_≡_, refl, sym, ap, _∙_}
-use mathlib.Core.List.{List, [], _∷_}
-use Prim.Native.Nat.{ℕ, zero, suc, _+_, _*_, _≤_, _<_, zero-le}
+use Rattle.integers.specs.Kit.{_≡_, refl, sym, ap, _∙_, List, [], _∷_, ℕ, zero, suc, _+_, _*_, _≤_, _<_, ℤ, pos, _*ℤ_, natAbs, length}
+use Prim.Native.Nat.{zero-le}
 use native.Mathlib.Nat.{le-refl, le-trans, le-of-eq, mul-add, mul-zero, mul-le-mul-left, mul-le-mul-right}
 use native.Mathlib.Omega.{arith}
-use lib.IntN.{ℤ, pos, _*ℤ_, natAbs}
-use lib.ListN.{length}
 use Rattle.integers.specs.Sum.{sum}
 use Rattle.integers.proofs.Magnitudes.{natAbs-add, natAbs-mul}
 use Rattle.integers.proofs.Sums.{naturals, sum-cong, sum-first, sum-le, sum-none, sum-plus, sum-times}
-use Rattle.ring.specs.Element.{component, add, scale, only, combine, magnitudes}
-use Rattle.ring.proofs.Linear.{LinearMap, LinearForm, linear-combine}
-use Rattle.ring.proofs.Components.{Eight, expand}
+use Rattle.ring.specs.Element.{component, add, scale, only, combine, magnitudes, Eight}
+use Rattle.ring.specs.Maps.{LinearMap, LinearForm}
+use Rattle.ring.proofs.Linear.{linear-combine}
+use Rattle.ring.proofs.Components.{expand}
 
--- the magnitudes summed from the front, component by component
+-- the sum of the magnitudes of the components 0 to n - 1
 
 abbrev pub sizes : List ℤ → ℕ → ℕ
 sizes a n = sum 0 _+_ n (λ k. natAbs (component a k))
@@ -52,7 +49,7 @@ unfolding sum
 magnitudes-sum zero f = le-refl 0
 magnitudes-sum (suc n) f = omega (arith, magnitudes-add (sum [] add n f) (f n), magnitudes-sum n f)
 
--- n linear maps: where their values at 1 and at each of c_1 to c_7 have magnitudes of C at most, those at a have C times a's own
+-- n linear maps: if at each basis element the magnitudes of the n values sum to at most C, then at a they sum to at most C times the magnitudes of a
 
 -- the sum of f 0 to f (n - 1) is linear in f
 sum-linear : (n s : ℕ) (f g : ℕ → ℕ) → sum 0 _+_ n (λ i. s * f i + g i) ≡ s * sum 0 _+_ n f + sum 0 _+_ n g
@@ -82,7 +79,7 @@ module _ (n C : ℕ) where
       spread i = ap (L i) (sym (expand e)) ∙ linear-combine (L i) (l i) (only (pos 1)) a
 
 -- a linear form: where no component of a has a magnitude above B, and the form's values at 1 and at c_1 to c_7 have magnitudes that sum to C at
--- most, its value at a has at most B times C
+-- most, its value at a has a magnitude of at most B·C
 module _ (φ : List ℤ → ℤ) (l : LinearForm φ) (B C : ℕ) where
   form-combine : (f : ℕ → List ℤ) (a : List ℤ) → ((k : ℕ) → natAbs (component a k) ≤ B)
       → natAbs (φ (combine f a)) ≤ B * sum 0 _+_ (length a) (λ k. natAbs (φ (f k)))

@@ -1,21 +1,18 @@
 -- The product of elements is linear in each factor, commutative and associative. All laws hold of lists of any length.
--- Assumes nothing.
-use mathlib.Core.Path.{_≡_, refl, sym, ap, ap₂, _∙_}
-use mathlib.Core.Bool.{Bool, and-comm}
-use mathlib.Core.List.{List, []}
-use Prim.Native.Nat.{ℕ, zero, suc, _%_, _≤_, _<_}
+use Rattle.integers.specs.Kit.{_≡_, refl, sym, ap, ap₂, _∙_, Bool, List, [], ℕ, zero, suc, _%_, _≤_, _<_, T, ltb, ℤ, pos, _-ℤ_, negℤ}
+use mathlib.Core.Bool.{and-comm}
 use native.Mathlib.Decide.{decLt}
 use native.Mathlib.Omega.{arith}
-use lib.Dec.{T, ltb}
-use lib.IntN.{ℤ, pos, _-ℤ_, negℤ, +ℤ-comm}
+use lib.IntN.{+ℤ-comm}
 use borrow.Author.Tests.{le-ltb}
-use Rattle.integers.specs.Test.{eqList}
+use Rattle.integers.specs.Test.{eqList, every₃}
 use Rattle.integers.proofs.Integer.{negℤ-sub}
 use Rattle.integers.proofs.Magnitudes.{natAbs-neg}
 use Rattle.integers.proofs.Sums.{swap}
-use Rattle.integers.proofs.Tests.{every₃, every₃-at, eqList→≡}
+use Rattle.integers.proofs.Tests.{every₃-at, eqList→≡}
 use Rattle.ring.specs.Element.{add, scale, full-turn, cosine, by-rule, basis-product, combine, mul}
-use Rattle.ring.proofs.Linear.{LinearMap, linear-combine, linear-combination, combine-cong, combine-nil, combine-swap}
+use Rattle.ring.specs.Maps.{LinearMap}
+use Rattle.ring.proofs.Linear.{linear-combine, linear-combination, combine-cong, combine-nil, combine-swap}
 
 -- commutative
 

@@ -1,19 +1,14 @@
 -- 0, 1 and the whole numbers among the elements. `Linear` and `Product` have the ring's other laws, for lists of any length; those that
 -- name 0 or 1 hold of elements with all of their components.
--- Assumes nothing.
-use mathlib.Core.Path.{_≡_, refl, sym, ap, _∙_}
-use mathlib.Core.Bool.{Bool, true, false, cond}
-use mathlib.Core.List.{List}
-use Prim.Native.Nat.{ℕ}
-use lib.Dec.{T}
-use lib.IntN.{ℤ, pos, negsuc, _*ℤ_, +ℤ-idl, zero-*ℤ, *ℤ-zero}
+use Rattle.integers.specs.Kit.{_≡_, refl, sym, ap, _∙_, Bool, true, false, cond, List, ℕ, T, ℤ, pos, negsuc, _*ℤ_}
+use lib.IntN.{+ℤ-idl, zero-*ℤ, *ℤ-zero}
 use Rattle.integers.specs.Test.{every, eqList}
 use Rattle.integers.proofs.Integer.{*ℤ-pos1}
 use Rattle.integers.proofs.Tests.{every-at, eqList→≡}
-use Rattle.ring.specs.Element.{add, scale, negate, only, integer, cosine, basis-product, mul}
+use Rattle.ring.specs.Element.{add, scale, negate, only, integer, cosine, basis-product, mul, Eight}
 use Rattle.ring.proofs.Linear.{linear-self, add-comm, add-assoc, add-scale, scale-one}
 use Rattle.ring.proofs.Product.{mul-left, mul-right}
-use Rattle.ring.proofs.Components.{Eight, eight-scale, by-components, linear-same}
+use Rattle.ring.proofs.Components.{eight-scale, by-components, linear-same}
 
 one-at : ℕ → Bool
 one-at k = eqList (mul (integer (pos 1)) (only (pos 1) k)) (only (pos 1) k)

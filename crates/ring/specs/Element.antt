@@ -1,13 +1,13 @@
 -- Elements: whole-number combinations of 1 and c_1 to c_7, with c_k = 2·cos(k·π/16) (01, "Elements").
--- An element is the list of its eight components, u_0 first, and means u_0 + u_1·c_1 + ... + u_7·c_7. Two elements are the same when
--- all their components are. The operations take lists of any length, and read a missing component as 0.
-use mathlib.Core.Bool.{cond, _&&_}
-use mathlib.Core.List.{List, [], _∷_}
-use Prim.Native.Nat.{ℕ, zero, suc, _+_, _-_, _%_}
-use lib.Dec.{leb, ltb, eqb}
-use lib.IntN.{ℤ, pos, negsuc, _+ℤ_, _-ℤ_, _*ℤ_, natAbs}
-use lib.ListN.{getD}
+-- An element is the list of its eight components, u_0 first, and means u_0 + u_1·c_1 + ... + u_7·c_7. Two elements, of eight
+-- components each, are the same when all their components are. The operations take lists of any length, and read a missing component as 0; `[]` is the 0
+-- from which sums start. 1 and c_1 to c_7 are the basis elements: component k of an element is the coefficient of the k-th.
+use Rattle.integers.specs.Kit.{_≡_, cond, _&&_, List, [], _∷_, ℕ, zero, suc, _+_, _-_, _%_, leb, ltb, eqb, ℤ, pos, _+ℤ_, _-ℤ_, _*ℤ_, negℤ, natAbs, length, getD}
 use Rattle.integers.specs.Table.{table}
+
+-- an element has all of its components; a record, so that it can be inferred
+pub record Eight (a : List ℤ) : Type 0 where
+  pub eight : length a ≡ 8
 
 -- sums and multiples
 
@@ -28,7 +28,7 @@ scale s (x ∷ a) = (s *ℤ x) ∷ scale s a
 
 -- -a
 abbrev pub negate : List ℤ → List ℤ
-negate a = scale (negsuc 0) a
+negate a = scale (negℤ (pos 1)) a
 
 -- a - b
 abbrev pub subtract : List ℤ → List ℤ → List ℤ
@@ -44,7 +44,7 @@ integer s = only s 0
 
 -- c_m for every whole m, by 01's rules
 
--- m from 0 to 8: c_0 = 2, each of c_1 to c_7 is counted by a component of its own, c_8 = 0
+-- m from 0 to 8: c_0 = 2, c_1 to c_7 are basis elements, c_8 = 0
 abbrev pub quarter-turn : ℕ → List ℤ
 quarter-turn zero = integer (pos 2)
 quarter-turn (suc k) = only (pos 1) (suc k)
@@ -63,7 +63,7 @@ cosine m = full-turn (natAbs m % 32)
 
 -- the product
 
--- the product of the numbers that components i and j count, which are 1 and the c_k: 1 × c_j = c_j, c_i × c_j = c_(i+j) + c_(i-j)
+-- the product of the basis elements i and j: 1 × c_j = c_j, c_i × c_j = c_(i+j) + c_(i-j)
 abbrev pub by-rule : ℕ → ℕ → List ℤ
 by-rule zero zero = integer (pos 1)
 by-rule zero (suc j) = cosine (pos (suc j))

@@ -1,13 +1,8 @@
 -- Each fraction lies on one side of each cosine: what lies below is less than what lies above, and no fraction is a cosine.
--- Assumes nothing.
-use mathlib.Core.Path.{_≡_, ap}
-use mathlib.Core.Bool.{Bool, not, _||_}
+use Rattle.integers.specs.Kit.{_≡_, ap, Bool, not, _||_, ℕ, zero, suc, _+_, _*_, _/_, _%_, _≤_, _<_, T, pos, natAbs}
 use mathlib.Core.Logic.{_⊎_, inl, inr}
-use Prim.Native.Nat.{ℕ, zero, suc, _+_, _*_, _/_, _%_, _≤_, _<_}
 use native.Mathlib.Nat.{div-add-mod, mod-lt, mul-le-mul, le-refl, lt-of-not-le, zero-lt-suc}
 use native.Mathlib.Omega.{arith}
-use lib.Dec.{T}
-use lib.IntN.{pos, natAbs}
 use mir.Facts.{or-yes, or-no, T-not-not}
 use Rattle.integers.proofs.Magnitudes.{natAbs-mul}
 use Rattle.rounding_error.specs.Fraction.{Fraction, whole, square, minus, at-most, less}

@@ -1,12 +1,9 @@
 -- Bounds of the sum that an element makes with fractions, from the rule of the table numbers; from above and from below at once.
--- Assumes nothing.
-use mathlib.Core.Path.{_≡_, ap₂, _∙_}
-use mathlib.Core.List.{List}
-use Prim.Native.Nat.{ℕ, zero, suc, _+_, _*_, _^_, _<_}
+use Rattle.integers.specs.Kit.{_≡_, ap₂, _∙_, List, ℕ, zero, suc, _+_, _*_, _^_, _<_, T, ℤ, pos, negsuc, _+ℤ_, _-ℤ_, _*ℤ_, negℤ, natAbs}
 use native.Mathlib.Nat.{mul-comm, mul-zero, zero-lt-suc}
 use native.Mathlib.Omega.{arith}
-use lib.Dec.{T, lt→ltb}
-use lib.IntN.{ℤ, pos, negsuc, _+ℤ_, _-ℤ_, _*ℤ_, negℤ, natAbs, zero-*ℤ}
+use lib.Dec.{lt→ltb}
+use lib.IntN.{zero-*ℤ}
 use lib.Pow.{pow-add}
 use lib.Signed.{_≤ℤ_, ltZ, ≤ℤ-refl}
 use Rattle.integers.specs.Sum.{sum}
@@ -44,7 +41,7 @@ negative-left w y D = rw (as-dif w, as-dif y, as-dif D) (simp difs (dif-same _ _
 
 -- orders
 
--- what a bound needs of ≤, and of its mirror
+-- what a bound needs of ≤, and of its mirror: that sums and multiples keep it, and that negatives turn it round
 pub record Order (R : ℤ → ℤ → Type 0) : Type 0 where
   pub same : (a : ℤ) → R a a
   pub sums : {a b c d : ℤ} → R a b → R c d → R (a +ℤ c) (b +ℤ d)
@@ -72,8 +69,9 @@ parts u k = natAbs (component u (suc k))
 pub double : (b : ℕ) → 2 ^ (b + 1) ≡ 2 * 2 ^ b
 double b = pow-add 2 b 1 ∙ mul-comm (2 ^ b) 2
 
+-- R is ≤ and e is 1, for the bound from above; or R is ≥ and e is -1, for that from below
 module _ {R : ℤ → ℤ → Type 0} (O : Order R) (e : ℤ) (b : ℕ) where
-  -- p is within (2g + e·h)/2^(b+1), in the sense of R
+  -- p ≤ (2g + h)/2^(b+1), or p ≥ (2g - h)/2^(b+1)
   abbrev pub UpTo : Fraction → ℤ → ℕ → Type 0
   UpTo p g h = R (p .upper *ℤ pos (2 ^ (b + 1))) ((pos 2 *ℤ g +ℤ e *ℤ pos h) *ℤ pos (p .lower))
 
@@ -89,7 +87,8 @@ module _ {R : ℤ → ℤ → Type 0} (O : Order R) (e : ℤ) (b : ℕ) where
   within-whole : (z : ℤ) → UpTo (whole z) (pos (2 ^ b) *ℤ z) 0
   within-whole z = rw (double b, whole-both e z (pos (2 ^ b))) (O .same _)
 
-  -- q against the table number m of its cosine, on the side that a positive factor needs, and on the other
+  -- q ≤ (2m + 1)/2^(b+1), which a positive factor needs, and q ≥ (2m - 1)/2^(b+1), which a negative one does; mirrored where R is ≥
+
   abbrev pub Inside : ℤ → Fraction → Type 0
   Inside m q = R (q .upper *ℤ pos (2 ^ (b + 1))) ((pos 2 *ℤ m +ℤ e) *ℤ pos (q .lower))
 

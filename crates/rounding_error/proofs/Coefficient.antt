@@ -1,11 +1,8 @@
 -- What the coefficient is: a nearest number, by the rule for halves. The error law and the sizes ask no more of it than to be nearest, and do not know
 -- where a half goes.
--- Assumes nothing.
-use mathlib.Core.Path.{_≡_, refl, sym, ap, ap₂, _∙_}
-use mathlib.Core.List.{List}
-use Prim.Native.Nat.{ℕ, suc, _+_, _*_, _^_, _≤_, _<_}
+use Rattle.integers.specs.Kit.{_≡_, refl, sym, ap, ap₂, _∙_, List, ℕ, suc, _+_, _*_, _^_, _≤_, _<_, ℤ, pos, _+ℤ_, _-ℤ_, _*ℤ_, negℤ, natAbs}
 use native.Mathlib.Omega.{arith}
-use lib.IntN.{ℤ, pos, _+ℤ_, _-ℤ_, _*ℤ_, negℤ, natAbs, negℤ-+ℤ, +ℤ-idr, +ℤ-invr, *ℤ-zero, pos-*ℤ-pos}
+use lib.IntN.{negℤ-+ℤ, +ℤ-idr, +ℤ-invr, *ℤ-zero, pos-*ℤ-pos}
 use lib.Pow.{pow-add, pow-pos}
 use Rattle.integers.specs.Nearest.{Rounded, Away, half-away}
 use Rattle.integers.specs.Sum.{sum}

@@ -1,12 +1,8 @@
 -- How near any whole number nearest to N/2^(b+s) lies to the 2^s-th part of an element's value, at every width: the value against N, by the rule of
 -- the table numbers, and N against the number, by what nearness is.
--- Assumes nothing.
-use mathlib.Core.List.{List}
-use Prim.Native.Nat.{ℕ, suc, _+_, _*_, _^_, _≤_, _<_}
+use Rattle.integers.specs.Kit.{List, ℕ, suc, _+_, _*_, _^_, _≤_, _<_, T, ℤ, pos, negsuc, _+ℤ_, _-ℤ_, _*ℤ_, natAbs}
 use native.Mathlib.Nat.{le-refl}
 use native.Mathlib.Omega.{arith}
-use lib.Dec.{T}
-use lib.IntN.{ℤ, pos, negsuc, _+ℤ_, _-ℤ_, _*ℤ_, natAbs}
 use lib.Pow.{pow-add}
 use lib.Signed.{_≤ℤ_, ≤ℤ-refl}
 use Rattle.integers.specs.Nearest.{Nearest}

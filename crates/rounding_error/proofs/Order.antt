@@ -1,12 +1,7 @@
 -- The order of fractions, as cross-multiplication makes it.
--- Assumes nothing.
-use mathlib.Core.Path.{_≡_}
-use mathlib.Core.Bool.{not}
-use Prim.Native.Nat.{ℕ, _*_}
+use Rattle.integers.specs.Kit.{_≡_, not, ℕ, _*_, T, ℤ, pos, negsuc, negℤ, _+ℤ_, _*ℤ_}
 use native.Mathlib.Nat.{mul-comm, zero-mul}
 use native.Mathlib.Omega.{arith}
-use lib.Dec.{T}
-use lib.IntN.{ℤ, pos, negsuc, negℤ, _+ℤ_, _*ℤ_}
 use lib.Signed.{_≤ℤ_, _<ℤ_, <ℤ-≤ℤ-trans, leZ-yes, ltZ-yes, ltZ-no, clashℤ}
 use mir.Facts.{not-T, T-not-not}
 use Rattle.integers.proofs.Integer.{as-dif, dif-same, difs, *ℤ-pos1, *ℤ-≤ℤ, ≤ℤ-*ℤ, *ℤ-<ℤ, *ℤ-<ℤ-cancel, <ℤ→≤ℤ, +ℤ-<ℤ-cancel, negℤ-<ℤ-cancel, leZ-no, square-<ℤ}

@@ -1,10 +1,7 @@
 -- Fractions (01, "Where a fraction lies against a cosine"): "pairs of whole numbers, the lower one above 0". They are compared by
 -- cross-multiplication, and two pairs of one value are not made equal.
-use mathlib.Core.Bool.{Bool}
-use Prim.Native.Nat.{ℕ, _*_, _<_}
+use Rattle.integers.specs.Kit.{Bool, ℕ, _*_, _<_, lit<, ℤ, pos, _+ℤ_, _*ℤ_, negℤ}
 use native.Mathlib.Nat.{mul-pos}
-use lib.Dec.{lit<}
-use lib.IntN.{ℤ, pos, _+ℤ_, _*ℤ_, negℤ}
 use lib.Signed.{leZ, ltZ}
 
 pub record Fraction : Type 0 where
@@ -15,6 +12,10 @@ pub record Fraction : Type 0 where
 -- a whole number
 abbrev pub whole : ℤ → Fraction
 whole z = record { upper = z; lower = 1; positive = lit< tt }
+
+-- 1/4
+abbrev pub quarter : Fraction
+quarter = record { upper = pos 1; lower = 4; positive = lit< tt }
 
 -- p + q
 abbrev pub plus : Fraction → Fraction → Fraction

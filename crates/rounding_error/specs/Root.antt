@@ -1,11 +1,7 @@
--- The cosines c_1 to c_7 as square roots, and where a fraction lies against them (01, "Where a fraction lies against a cosine").
-use mathlib.Core.Path.{_≡_}
-use mathlib.Core.Bool.{Bool, not, _||_}
-use mathlib.Core.List.{[], _∷_}
-use Prim.Native.Nat.{ℕ, _-_}
-use lib.Dec.{T}
-use lib.IntN.{pos, _*ℤ_}
-use lib.ListN.{getD}
+-- The cosines c_1 to c_7 as square roots, and where a fraction lies against them (01, "Where a fraction lies against a cosine"). `roots` ties them to the
+-- ring's c_1 to c_7.
+use Rattle.integers.specs.Kit.{_≡_, Bool, not, _||_, List, [], _∷_, ℕ, _-_, T, ℤ, pos, _*ℤ_, getD}
+use Rattle.ring.specs.Element.{add, subtract, integer, cosine, mul}
 use Rattle.rounding_error.specs.Fraction.{Fraction, whole, square, minus, at-most, less}
 
 -- √2, √(2 + r) and √(2 - r)
@@ -26,6 +22,17 @@ c6 = root-2-minus c4
 -- c_k, for k from 1 to 7; no other k is meant
 unfoldable pub root : ℕ → Root
 root k = getD (root-2-plus c2 ∷ c2 ∷ root-2-plus c6 ∷ c4 ∷ root-2-minus c6 ∷ c6 ∷ root-2-minus c2 ∷ []) (k - 1) c4
+
+-- c_k² in the ring
+abbrev pub squared : ℕ → List ℤ
+squared k = mul (cosine (pos k)) (cosine (pos k))
+
+-- c_k = √(2 + c_j), and c_k = √(2 - c_j), both as a root and in the ring
+abbrev pub PlusRoot : ℕ → ℕ → Type 0
+PlusRoot k j = (root k ≡ root-2-plus (root j)) × (squared k ≡ add (integer (pos 2)) (cosine (pos j)))
+
+abbrev pub MinusRoot : ℕ → ℕ → Type 0
+MinusRoot k j = (root k ≡ root-2-minus (root j)) × (squared k ≡ subtract (integer (pos 2)) (cosine (pos j)))
 
 -- the fraction p lies below the root: each p at or below 0 does, and a p above 0 does when
 -- p² < 2 for √2, p² - 2 lies below r for √(2 + r), and 2 - p² lies above r for √(2 - r)

@@ -1,8 +1,5 @@
 -- An element's value against fractions (01, "Where a fraction lies against a cosine", second paragraph).
-use mathlib.Core.List.{List}
-use Prim.Native.Nat.{ℕ, suc, _^_, _≤_}
-use lib.Dec.{T}
-use lib.IntN.{ℤ, pos}
+use Rattle.integers.specs.Kit.{List, ℕ, suc, _^_, _≤_, T, ℤ, pos, negsuc}
 use lib.Signed.{ltZ}
 use Rattle.integers.specs.Sum.{sum}
 use Rattle.ring.specs.Element.{component}
@@ -13,21 +10,26 @@ use Rattle.rounding_error.specs.Root.{root, below, above}
 unfoldable pub with-fractions : List ℤ → (ℕ → Fraction) → Fraction
 with-fractions u q = plus (whole (component u 0)) (sum (whole (pos 0)) plus 7 (λ k. times (component u (suc k)) (q (suc k))))
 
--- each q k lies below c_k where u_k is positive, and above it where u_k is negative
+-- fractions whose sum does not lie above the value of u: each q k lies below c_k where u_k is positive, and above it where u_k is negative
 pub record Low (u : List ℤ) (q : ℕ → Fraction) : Type 0 where
   pub at-positive : (k : ℕ) → 1 ≤ k → k ≤ 7 → T (ltZ (pos 0) (component u k)) → T (below (root k) (q k))
   pub at-negative : (k : ℕ) → 1 ≤ k → k ≤ 7 → T (ltZ (component u k) (pos 0)) → T (above (root k) (q k))
 
--- the mirror: each q k lies above c_k where u_k is positive, and below it where u_k is negative
+-- the mirror, fractions whose sum does not lie below it: each q k lies above c_k where u_k is positive, and below it where u_k is negative
 pub record High (u : List ℤ) (q : ℕ → Fraction) : Type 0 where
   pub at-positive : (k : ℕ) → 1 ≤ k → k ≤ 7 → T (ltZ (pos 0) (component u k)) → T (above (root k) (q k))
   pub at-negative : (k : ℕ) → 1 ≤ k → k ≤ 7 → T (ltZ (component u k) (pos 0)) → T (below (root k) (q k))
 
--- the value of u is at most r
+-- p or q, by the sign of a component, with which sums of both kinds are made (`some-low`, `some-high`)
+abbrev pub by-sign : Fraction → Fraction → ℤ → Fraction
+by-sign p q (pos n) = p
+by-sign p q (negsuc n) = q
+
+-- the value of u is at most r: each sum of the first kind is at most r, since the value is the least upper bound of these sums
 abbrev pub ValueAtMost : List ℤ → Fraction → Type 0
 ValueAtMost u r = (q : ℕ → Fraction) → Low u q → T (at-most (with-fractions u q) r)
 
--- the value of u is at least r
+-- the value of u is at least r: each sum of the second kind is at least r
 abbrev pub ValueAtLeast : List ℤ → Fraction → Type 0
 ValueAtLeast u r = (q : ℕ → Fraction) → High u q → T (at-most r (with-fractions u q))
 

@@ -1,19 +1,15 @@
 -- The output of a sheet, word by word: the head, one block more, and the end word.
--- Assumes nothing.
-use mathlib.Core.Path.{_≡_, refl, sym, ap, _∙_}
-use mathlib.Core.List.{List, _++_}
-use Prim.Native.Nat.{ℕ, suc, _+_, _-_, _*_, _/_, _%_, _≤_, _<_}
+use Rattle.integers.specs.Kit.{_≡_, refl, sym, ap, _∙_, List, _++_, ℕ, suc, _+_, _-_, _*_, _/_, _%_, _≤_, _<_, length, set, take, drop}
+use Prim.Native.Nat.{zero-le}
 use native.Mathlib.Omega.{arith}
-use lib.IntN.{ℤ}
-use lib.ListN.{length, set, take, drop, length-append, length-drop}
 use borrow.Author.Tests.{eq-eqb, ne-eqb}
-use Rattle.integers.specs.Table.{table, over}
+use Rattle.integers.specs.Table.{table, over, over-at}
 use Rattle.integers.proofs.Tables.{length-table, table-ext}
-use Rattle.integers.proofs.Overwriting.{table-append, over-none, over-more, over-lent}
+use Rattle.integers.proofs.Overwriting.{table-append, over-none, over-more, over-start, over-on, over-lent}
 use Rattle.limits.specs.Limits.{places}
 use Rattle.words.specs.Word.{coefficient-head-kind, payload, word}
 use Rattle.sheet_checks.specs.Check.{word-at, size-of}
-use Rattle.sheet_blocks.specs.Preconditions.{after-blocks}
+use Rattle.sheet_blocks.specs.Preconditions.{with-blocks}
 use Rattle.sheet_blocks.specs.Blocks.{block-coefficients, coefficient-sheet, coefficient-word, output-word}
 
 -- the words of the output
@@ -37,10 +33,9 @@ output-end b words i h l = rw (ne-eqb i 0 (λ e. omega arith), eq-eqb (suc i) (l
 
 -- what the code writes
 
--- beyond p, what p is written over has its own length
-below : {n : ℕ} (p l : List ℕ) → n ≤ length (over p l) → length p < n → n ≤ length l
-unfolding over
-below p l h g = omega (arith, simp (length-append, length-drop) at h)
+-- what the output, which was l, holds once the head and n blocks are written
+abbrev pub after-blocks : ℕ → List ℕ → ℕ → List ℕ → List ℕ
+after-blocks b words n l = over (table (1 + places * n) (output-word b words)) l
 
 module _ (b : ℕ) (words l : List ℕ) where
   -- the head
@@ -49,22 +44,35 @@ module _ (b : ℕ) (words l : List ℕ) where
       let f = output-word b words in
       ap (set l 0) (e ∙ sym (output-head b words)) ∙ ap (λ m. set m 0 (f 0)) (sym (over-none l)) ∙ over-more f 0 l h
 
-  -- the coefficients y of block k: `part` is the part of the output from word a on, once they are written over its start
-  pub block-written : (k a n : ℕ) (y : List ℤ) {was part : List ℕ} → a ≡ 1 + places * k → a + places < length words → length words ≤ length was
-      → y ≡ block-coefficients b words k → n ≡ length was - a → part ≡ over (table places (coefficient-word y)) (take n (drop a was))
-      → was ≡ after-blocks b words k l → take a was ++ (part ++ drop n (drop a was)) ≡ after-blocks b words (k + 1) l
-  block-written k a n y {was} {part} at room fits e size new old =
+  -- block k: `part` is the part of the output from its first word on, of n words, once its words are written over the start
+  pub block-written : (k n : ℕ) {part : List ℕ} → 1 + places * k + places < length words → 1 + places * k + n ≡ length l → places ≤ n
+      → part ≡ over (table places (coefficient-word (block-coefficients b words k))) (take n (drop (1 + places * k) l))
+      → take (1 + places * k) l ++ (part ++ drop n (drop (1 + places * k) l)) ≡ with-blocks b words k 1 l
+  block-written k n room size h new =
       let f = output-word b words in
-      let p = table (1 + places * k) f in
-      let q = table places (coefficient-word y) in
-      let lp : length p ≡ 1 + places * k = length-table (1 + places * k) f in
-      let lq : length q ≡ places = length-table places (coefficient-word y) in
-      let ll : length words ≤ length l = below p l (rw old at fits) (omega arith) in
-      let words-of-block : q ≡ table places (λ i. f (1 + places * k + i)) =
-      table-ext places (coefficient-word y) (λ i. f (1 + places * k + i)) (λ i h. rw e (sym (output-body b words k i h (rw at at room)))) in
-      let next : 1 + places * k + places ≡ 1 + places * (k + 1) = omega arith in
-      rw (new, old) (over-lent p q l a n (lp ∙ sym at) (omega arith) (omega arith))
-      ∙ ap (λ t. over t l) (ap (λ t. p ++ t) words-of-block ∙ sym (table-append (1 + places * k) places f) ∙ ap (λ m. table m f) next)
+      let g : ℕ → ℕ = λ i. f (1 + places * k + i) in
+      let same = table-ext places (coefficient-word (block-coefficients b words k)) g (λ i h. sym (output-body b words k i h room)) in
+      let long = length-table places g in
+      over-lent (1 + places * k) n (table places g) l (omega arith) (omega arith) (new ∙ ap (λ t. over t (take n (drop (1 + places * k) l))) same)
+
+  -- block after block
+  pub one-more : (k : ℕ) → 1 ≤ length l → with-blocks b words k 1 (with-blocks b words 0 k l) ≡ with-blocks b words 0 (k + 1) l
+  one-more k h =
+      let f = output-word b words in
+      let g : ℕ → ℕ = λ i. f (1 + i) in
+      let same : (i : ℕ) → 1 + places * k + i ≡ 1 + (places * k + i) = λ i. omega arith in
+      let next : places * k + places ≡ places * (k + 1) = omega arith in
+      let long = length-table (places * k) g in
+      over-on 1 (1 + places * k) (table (places * k) g) (table places (λ i. f (1 + places * k + i))) l h (omega arith)
+      ∙ ap (λ t. over-at 1 t l) (ap (λ t. table (places * k) g ++ t) (table-ext places _ _ (λ i m. ap f (same i)))
+      ∙ sym (table-append (places * k) places g) ∙ ap (λ m. table m g) next)
+
+  -- the head and n blocks
+  pub all-written : (n : ℕ) → with-blocks b words 0 n (after-blocks b words 0 l) ≡ after-blocks b words n l
+  all-written n =
+      let f = output-word b words in
+      ap (with-blocks b words 0 n) (sym (over-start (table 1 f) l)) ∙ over-on 0 1 (table 1 f) (table (places * n) (λ i. f (1 + i))) l zero-le refl
+      ∙ over-start (table 1 f ++ table (places * n) (λ i. f (1 + i))) l ∙ ap (λ t. over t l) (sym (table-append 1 (places * n) f))
 
   -- the end word
   pub end-written : (n i : ℕ) → length words ≡ size-of n → length words ≤ length l → suc i ≡ length words

@@ -1,22 +1,17 @@
 -- Where the blocks of a sheet stand; that the samples of a sheet that was checked are in range, and that the coefficients of its blocks are such as
 -- words can hold.
--- Assumes nothing.
-use mathlib.Core.Path.{_≡_, sym, ap, _∙_}
-use mathlib.Core.List.{List}
-use Prim.Native.Nat.{ℕ, zero, suc, _+_, _*_, _/_, _%_, _<_}
+use Rattle.integers.specs.Kit.{_≡_, sym, ap, _∙_, List, ℕ, zero, suc, _+_, _*_, _/_, _%_, _<_, T, lit<, lit≤, ℤ, pos, length, getD}
 use native.Mathlib.Nat.{lt-of-le-of-lt, not-suc-le-zero, zero-lt-suc, zero-mul, mul-add, mul-one, mul-comm, mul-le-mul-left, div-lt-iff-lt-mul, div-add-mod, mod-lt}
 use native.Mathlib.Omega.{arith}
 use lib.Arith.{digits-div, digits-mod}
-use lib.Dec.{T, lit<, lit≤}
-use lib.IntN.{ℤ, pos}
-use lib.ListN.{length, getD}
 use Rattle.integers.proofs.Tables.{getD-table}
 use Rattle.limits.specs.Limits.{places, halvings}
-use Rattle.element_sets.specs.Sets.{AllInRange, elements-of}
-use Rattle.element_sets.proofs.Blocks.{block-set}
-use Rattle.rounding.specs.Preconditions.{Ready}
-use Rattle.rounding.specs.Tables.{width}
-use Rattle.rounding.proofs.Blocks.{coefficient-size, ready}
+use Rattle.blocks.specs.Blocks.{AllInRange, elements-of}
+use Rattle.element_sets.proofs.Limit.{block-set}
+use Rattle.coefficients.specs.Preconditions.{Ready}
+use Rattle.coefficients.specs.Coefficients.{coefficients-of}
+use Rattle.coefficients.specs.Tables.{width}
+use Rattle.coefficients.proofs.Blocks.{coefficient-size, ready}
 use Rattle.words.specs.Word.{across, coefficient-kind, down, kind, payload, payload-of, value}
 use Rattle.words.proofs.Packing.{kind-word, payload-of-below, payload-word, small-in-range, value-of-payload}
 use Rattle.sheet_checks.specs.Check.{word-at, blocks}
@@ -62,10 +57,14 @@ coefficient-kept {y} F p l =
     let below = payload-of-below z range in
     (kind-word coefficient-kind (payload-of z) below, rw (payload-word coefficient-kind (payload-of z) below) (value-of-payload z range))
 
+-- so can the coefficients of a block whose samples are in range
+pub coefficients-fit : {x : List ℤ} (b : ℕ) → AllInRange 2 x → T (width b) → Fit (coefficients-of 2 b (elements-of 2 x))
+coefficients-fit {x} b range w = record { small = λ i l. lt-of-le-of-lt (coefficient-size b (block-set 1 x range) w i l) (lit< tt) }
+
 module _ {K : Scratch} {words : List ℕ} {b s o : ℕ} (C : Checked K words b s o) (k : ℕ) (h : k < blocks words) where
   -- the words of block k
   pub block-words : 1 + places * k + places < length words
-  block-words = rw (C .right .right-shape .count) (omega arith)
+  block-words = rw (C .right .valid-shape .count) (omega arith)
 
   pub block-range : AllInRange 2 (block words k)
   unfolding block
@@ -77,8 +76,7 @@ module _ {K : Scratch} {words : List ℕ} {b s o : ℕ} (C : Checked K words b s
 
   pub block-fit : Fit (block-coefficients b words k)
   unfolding block-coefficients
-  block-fit =
-      record { small = λ i l. lt-of-le-of-lt (coefficient-size b (block-set 1 (block words k) block-range) (C .at-width) i l) (lit< tt) }
+  block-fit = coefficients-fit b block-range (C .at-width)
 
   -- coefficient p of block k has kind 3 in the output, and its value is the rounding at b of that block's element p
   pub output-coefficient : (p : ℕ) → p < places

@@ -1,35 +1,31 @@
 -- The two sums of a sheet: how they grow by a block, that 64 bits hold them, and that they are equal.
--- Assumes nothing.
-use mathlib.Core.Path.{_≡_, refl, sym, ap, ap₂, _∙_}
-use mathlib.Core.List.{List}
-use Prim.Native.Nat.{ℕ, _+_, _*_, _^_, _≤_, _<_, zero-le}
+use Rattle.integers.specs.Kit.{_≡_, refl, sym, ap, ap₂, _∙_, List, ℕ, _+_, _*_, _^_, _≤_, _<_, lit<, ℤ, pos, _+ℤ_, natAbs, length}
+use Prim.Native.Nat.{zero-le}
 use native.Mathlib.Nat.{lt-of-le-of-lt, mul-comm}
 use native.Mathlib.Numerals.{add-one}
 use native.Mathlib.Omega.{arith}
-use lib.Dec.{lit<}
-use lib.IntN.{ℤ, pos, _+ℤ_, natAbs}
-use lib.ListN.{length}
 use lib.Signed.{natAbs-le}
 use mir.Syntax.{w32, w64}
 use mir.Val.{SFits}
 use Rattle.integers.specs.Sum.{sum}
 use Rattle.integers.specs.Table.{over, table}
 use Rattle.integers.proofs.Magnitudes.{natAbs-add, small-fits}
-use Rattle.integers.proofs.Overwriting.{getD-over}
+use Rattle.integers.proofs.Overwriting.{before-part, getD-over}
 use Rattle.integers.proofs.Signed.{in32, in64, kept, read-i32}
 use Rattle.integers.proofs.Sums.{integers, natAbs-sum, sum-append, sum-blocks, sum-cong}
 use Rattle.integers.proofs.Tables.{getD-table, length-table}
 use Rattle.limits.specs.Limits.{blocks-limit, places, sample-limit}
-use Rattle.element_sets.specs.Sets.{AllInRange, block-sum, sample}
-use Rattle.element_sets.proofs.Blocks.{samples-small}
-use Rattle.rounding.proofs.Blocks.{first-coefficient}
+use Rattle.blocks.specs.Blocks.{AllInRange, block-sum, sample}
+use Rattle.blocks.proofs.Blocks.{samples-small}
+use Rattle.coefficients.proofs.Blocks.{first-coefficient}
 use Rattle.words.specs.Word.{payload, value, value-limit}
 use Rattle.words.proofs.Packing.{value-small}
 use Rattle.sheet_checks.specs.Check.{word-at, value-at, blocks}
 use Rattle.sheet_blocks.specs.declared.Totals.{Totals}
 use Rattle.sheet_blocks.specs.Blocks.{Scratch, block, block-coefficients, coefficient-sheet, output-word}
-use Rattle.sheet_blocks.specs.Preconditions.{Checked, after-blocks}
+use Rattle.sheet_blocks.specs.Preconditions.{Checked, Room, with-blocks}
 use Rattle.sheet_blocks.specs.Sums.{Agree, firsts-total, samples-total, first-sum, sample-sum}
+use Rattle.sheet_blocks.proofs.Output.{after-blocks}
 use Rattle.sheet_blocks.proofs.Samples.{block-words, output-coefficient}
 
 -- the value of word i of the body
@@ -97,30 +93,27 @@ unfolding sample-sum first-sum sum
 agree-none words output = record { of-samples = refl; of-firsts = refl }
 
 module _ {words was : List ℕ} {k : ℕ} {t : Totals} (A : Agree words was k t) where
-  -- the words before block k are kept
-  pub agree-more : (left : List ℕ) {r s : ℤ} → ((i : ℕ) → i < 1 + places * k → word-at left i ≡ word-at was i)
-      → r ≡ t .samples +ℤ block-sum (block words k) → s ≡ t .firsts +ℤ value-at left (1 + places * k) → Agree words left (k + 1) (record { samples = r; firsts = s })
-  agree-more left same f g =
+  -- the words of block k are written, and those before it are kept
+  pub agree-more : (b : ℕ) {left : List ℕ} {r : Totals} → 1 + places * k ≤ length was → left ≡ with-blocks b words k 1 was
+      → r .samples ≡ t .samples +ℤ block-sum (block words k) → r .firsts ≡ t .firsts +ℤ value-at left (1 + places * k) → Agree words left (k + 1) r
+  agree-more b {left} h e f g =
+      let same : (i : ℕ) → i < 1 + places * k → word-at left i ≡ word-at was i = λ i l. ap (λ o. word-at o i) e ∙ before-part (1 + places * k) _ was 0 i h l in
       record {
         of-samples = f ∙ ap (λ z. z +ℤ block-sum (block words k)) (A .of-samples) ∙ sym (samples-more words k);
         of-firsts = g ∙ ap (λ z. z +ℤ value-at left (1 + places * k)) (A .of-firsts ∙ sym (same-firsts left was k (λ j h. same (1 + places * j) (omega arith))))
             ∙ sym (firsts-more left k);
       }
 
-  -- how large they get, whatever the words are
-
-  pub samples-bound : natAbs (t .samples) ≤ places * k * value-limit
-  unfolding sample-sum
-  samples-bound = rw (A .of-samples) (natAbs-sum (places * k) value-limit (body-value words) (λ i h. value-small (word-at words (1 + i))))
-
-  pub firsts-bound : natAbs (t .firsts) ≤ places * k * value-limit
-  unfolding first-sum
-  firsts-bound =
-      let small = natAbs-sum k value-limit (λ j. value-at was (1 + places * j)) (λ j h. value-small (word-at was (1 + places * j))) in
-      rw (A .of-firsts) (omega arith)
+  -- whatever the words are, there is room for a block more
+  pub room : k < blocks-limit → Room t
+  unfolding sample-sum first-sum
+  room few =
+      let samples = natAbs-sum (places * k) value-limit (body-value words) (λ i h. value-small (word-at words (1 + i))) in
+      let firsts = natAbs-sum k value-limit (λ j. value-at was (1 + places * j)) (λ j h. value-small (word-at was (1 + places * j))) in
+      record { of-samples = rw (A .of-samples) (omega arith); of-firsts = rw (A .of-firsts) (omega arith) }
 
 -- so that 64 bits hold such a sum z, and what it comes to with x, as the code reads and adds them
-module _ {k : ℕ} (few : k < blocks-limit) (z x : ℤ) (bound : natAbs z ≤ places * k * value-limit) (fits : SFits w32 x) where
+module _ (z x : ℤ) (bound : natAbs z < 2 ^ 62) (fits : SFits w32 x) where
   total-read : in64 z +ℤ in32 x ≡ z +ℤ x
   total-read = ap₂ _+ℤ_ (kept w64 z (omega arith)) (read-i32 x fits)
 

@@ -1,14 +1,9 @@
 -- The blocks of a sheet, and the words of the coefficient sheet (01, "Sheets").
-use mathlib.Core.Bool.{cond}
-use mathlib.Core.List.{List}
-use Prim.Native.Nat.{ℕ, suc, _+_, _-_, _*_, _/_, _%_}
-use lib.Dec.{eqb}
-use lib.IntN.{ℤ, pos}
-use lib.ListN.{length, getD}
+use Rattle.integers.specs.Kit.{cond, List, ℕ, suc, _+_, _-_, _*_, _/_, _%_, eqb, ℤ, pos, length, getD}
 use Rattle.integers.specs.Table.{table}
 use Rattle.limits.specs.Limits.{places, components-size}
-use Rattle.element_sets.specs.Sets.{elements-of}
-use Rattle.rounding.specs.Rounding.{coefficients-of}
+use Rattle.blocks.specs.Blocks.{elements-of}
+use Rattle.coefficients.specs.Coefficients.{coefficients-of}
 use Rattle.words.specs.Word.{across, coefficient-head-kind, coefficient-kind, payload, payload-of, value, word}
 use Rattle.sheet_checks.specs.Check.{word-at}
 
@@ -20,7 +15,7 @@ block-number words i j = across (word-at words 0) * i + j
 unfoldable pub block : List ℕ → ℕ → List ℤ
 block words k = table places (λ i. value (payload (word-at words (1 + places * k + i))))
 
--- what a scratch is lent for: how many numbers it has, and which it holds once a block is done, by the block's samples
+-- a kind of scratch: how many numbers it has, and what it holds after a block with given samples
 pub record Scratch : Type 0 where
   pub size : ℕ
   pub holds : List ℤ → List ℤ

@@ -1,8 +1,5 @@
 -- The two sums of a sheet (02, request 5): over the first k of its blocks, and over all.
-use mathlib.Core.Path.{_≡_}
-use mathlib.Core.List.{List}
-use Prim.Native.Nat.{ℕ, _+_, _*_}
-use lib.IntN.{ℤ, pos, _+ℤ_}
+use Rattle.integers.specs.Kit.{_≡_, List, ℕ, _+_, _*_, ℤ, pos, _+ℤ_}
 use Rattle.integers.specs.Sum.{sum}
 use Rattle.limits.specs.Limits.{places}
 use Rattle.sheet_checks.specs.Check.{value-at, blocks}

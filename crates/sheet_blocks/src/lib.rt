@@ -1,27 +1,23 @@
 // The blocks of a sheet (01, "Sheets"): the coefficient sheet of a sample sheet in which everything was found right.
 //
-// Block after block goes by way of the cores of `forward` and `round`, which check nothing: the check of the sheet gives what they ask. What the
+// Each block goes through `transform` and `fill`, which check nothing: the check of the sheet gives what they ask. What the
 // loop carries is a record by value, with the sums of the samples and of the first coefficients so far.
-ghost use mathlib.Core.Path.{_≡_};
-ghost use Prim.Native.Nat.{_*_, _+_, _-_, _<_, _≤_};
-ghost use lib.Dec.{T};
-ghost use lib.IntN.{_+ℤ_};
-ghost use lib.ListN.{length};
+ghost use Rattle.integers.specs.Kit.{_≡_, _*_, _+_, _-_, _<_, _≤_, T, _+ℤ_, length};
 ghost use mir.Syntax.{w64};
 ghost use mir.Val.{SFits};
 ghost use Rattle.integers.specs.Table.{over, table};
 ghost use Rattle.limits.specs.Limits.{components-size, places};
-ghost use Rattle.element_sets.specs.Sets.{AllInRange, block-sum, elements-of};
-ghost use Rattle.rounding.specs.Rounding.{coefficients-of};
-ghost use Rattle.rounding.specs.Tables.{width};
+ghost use Rattle.blocks.specs.Blocks.{AllInRange, block-sum, elements-of};
+ghost use Rattle.coefficients.specs.Coefficients.{coefficients-of};
+ghost use Rattle.coefficients.specs.Tables.{width};
 ghost use Rattle.sheet_checks.specs.Check.{blocks};
 ghost use Rattle.sheet_blocks.specs.Blocks as sheet;
-ghost use Rattle.sheet_blocks.specs.Preconditions.{Advanced, Checked, Fit};
+ghost use Rattle.sheet_blocks.specs.Preconditions.{Checked, Fit, Room, with-blocks};
 ghost use Rattle.sheet_blocks.specs.Sums.{Agree};
+use coefficients::fill;
+use forward_passes::transform;
 use integers::plus;
 use limits::PLACES;
-use rounding::fill;
-use transform::transform;
 use words::COEFFICIENT;
 use words::COEFFICIENT_HEAD;
 use words::payload;
@@ -83,8 +79,23 @@ fn store(coefficients: [i32; PLACES], output: &mut [u32])
     }
 }
 
+// The words of a block's coefficients, at the start of a part of the output; its elements stay in the scratch.
+fn convert_block(samples: &[i32; PLACES], b: u32, scratch: &mut [i32], output: &mut [u32])
+    requires { ⌜ T (width b) ⌝ }
+    requires { ⌜ AllInRange 2 (now samples) ⌝ }
+    requires { ⌜ length (now scratch) ≡ components-size ⌝ }
+    requires { ⌜ places ≤ length (now output) ⌝ }
+    ensures { λ r. ⌜ now (scratch .exit) ≡ elements-of 2 (now (samples .entry)) ⌝ }
+    ensures { λ r. ⌜ now (output .exit) ≡ over (table places (sheet.coefficient-word (coefficients-of 2 b (elements-of 2 (now (samples .entry)))))) (now (output .entry)) ⌝ }
+{
+    transform(samples, scratch);
+    let mut coefficients = [0i32; PLACES];
+    fill(scratch, b, &mut coefficients);
+    store(coefficients, output);
+}
+
 // t + x, where it fits.
-fn added(t: i64, x: i32) -> i64
+fn plus_wide(t: i64, x: i32) -> i64
     requires { ⌜ SFits w64 (t +ℤ x) ⌝ }
     ensures { λ r. ⌜ r ≡ t +ℤ x ⌝ }
 {
@@ -92,18 +103,17 @@ fn added(t: i64, x: i32) -> i64
     t + wide
 }
 
-// The coefficients of a block; its elements stay in the scratch.
-fn coefficients(samples: &[i32; PLACES], b: u32, scratch: &mut [i32]) -> [i32; PLACES]
-    requires { ⌜ T (width b) ⌝ }
+// Both sums with one block more, whose first coefficient is `first`.
+fn with_block(t: Totals, samples: &[i32; PLACES], first: i32) -> Totals
+    requires { ⌜ Room t ⌝ }
     requires { ⌜ AllInRange 2 (now samples) ⌝ }
-    requires { ⌜ length (now scratch) ≡ components-size ⌝ }
-    ensures { λ r. ⌜ r ≡ coefficients-of 2 b (elements-of 2 (now (samples .entry))) ⌝ }
-    ensures { λ r. ⌜ now (scratch .exit) ≡ elements-of 2 (now (samples .entry)) ⌝ }
+    ensures { λ r. ⌜ r .samples ≡ t .samples +ℤ block-sum (now (samples .entry)) ⌝ }
+    ensures { λ r. ⌜ r .firsts ≡ t .firsts +ℤ first ⌝ }
 {
-    transform(samples, scratch);
-    let mut coefficients = [0i32; PLACES];
-    fill(scratch, b, &mut coefficients);
-    coefficients
+    Totals {
+        samples: plus_wide(t.samples, sum(samples)),
+        firsts: plus_wide(t.firsts, first),
+    }
 }
 
 // One block more: its words go to the output, its elements to the scratch, and both sums take it in.
@@ -120,18 +130,15 @@ fn next_block(
     ensures { λ r. ⌜ r .blocks ≡ state .blocks + 1 ⌝ }
     ensures { λ r. ⌜ Agree (now (words .entry)) (now (output .exit)) (r .blocks) (r .totals) ⌝ }
     ensures { λ r. ⌜ now (scratch .exit) ≡ sheet.element-scratch .holds (sheet.block (now (words .entry)) (state .blocks)) ⌝ }
-    ensures { λ r. ⌜ Advanced b (now (words .entry)) (state .blocks) (state .blocks + 1) (now (output .entry)) (now (output .exit)) ⌝ }
+    ensures { λ r. ⌜ now (output .exit) ≡ with-blocks b (now (words .entry)) (state .blocks) 1 (now (output .entry)) ⌝ }
 {
     let k = state.blocks;
     let first = 1 + PLACES * k;
     let samples = block(words, k);
-    store(coefficients(&samples, b, scratch), &mut output[first..]);
+    convert_block(&samples, b, scratch, &mut output[first..]);
     Progress {
         blocks: k + 1,
-        totals: Totals {
-            samples: added(state.totals.samples, sum(&samples)),
-            firsts: added(state.totals.firsts, value(output[first])),
-        },
+        totals: with_block(state.totals, &samples, value(output[first])),
     }
 }
 
@@ -140,7 +147,7 @@ fn all_blocks(words: &[u32], b: u32, scratch: &mut [i32], output: &mut [u32]) ->
     requires { ⌜ Checked sheet.element-scratch (now words) b (length (now scratch)) (length (now output)) ⌝ }
     ensures { λ r. ⌜ Agree (now (words .entry)) (now (output .exit)) (blocks (now (words .entry))) r ⌝ }
     ensures { λ r. ⌜ now (scratch .exit) ≡ sheet.element-scratch .holds (sheet.block (now (words .entry)) (blocks (now (words .entry)) - 1)) ⌝ }
-    ensures { λ r. ⌜ Advanced b (now (words .entry)) 0 (blocks (now (words .entry))) (now (output .entry)) (now (output .exit)) ⌝ }
+    ensures { λ r. ⌜ now (output .exit) ≡ with-blocks b (now (words .entry)) 0 (blocks (now (words .entry))) (now (output .entry)) ⌝ }
 {
     // Head and end word are fewer than a block, so that what is left of the division is theirs.
     let n = words.len() / PLACES;

@@ -1,26 +1,23 @@
 -- The bytes that are read of an input, r of them, and what the sheet job answers for their words.
--- Assumes nothing.
-use mathlib.Core.Path.{_≡_, refl, sym, ap, ap₂, _∙_}
-use mathlib.Core.List.{List}
-use Prim.Native.Nat.{ℕ, _*_, _/_, _%_, _≤_, min}
+use Rattle.integers.specs.Kit.{_≡_, refl, sym, ap, ap₂, _∙_, List, ℕ, _*_, _/_, _%_, _≤_, ℤ, pos, length, take, replicate}
+use Prim.Native.Nat.{min}
 use native.Mathlib.Decide.{decLe}
 use native.Mathlib.Omega.{arith}
-use lib.IntN.{ℤ, pos}
-use lib.ListN.{length, take, replicate, length-replicate, length-take}
+use lib.ListN.{length-replicate, length-take}
 use lib.Seq.{take-all}
 use borrow.Author.Tests.{eq-eqb, ne-eqb}
 use Rattle.integers.specs.Table.{over}
 use Rattle.integers.proofs.Overwriting.{take-over}
 use Rattle.integers.proofs.Tables.{length-table}
 use Rattle.limits.specs.Limits.{components-size}
-use Rattle.answers.specs.Answer.{Returned, accept-words, answered, holds, fails}
+use Rattle.answers.specs.Answer.{Returned, accept-with, answered, holds, fails}
 use Rattle.answers.specs.Job.{Job, job-returned, job-left}
 use Rattle.answers.proofs.Causes.{only-reason, passes-on}
 use Rattle.answers.proofs.Jobs.{refused-leaves, same-left}
 use Rattle.sheet_blocks.specs.declared.Totals.{Totals}
 use Rattle.sheet_blocks.specs.Blocks.{element-scratch, coefficient-sheet}
 use Rattle.sheet_blocks.specs.Sums.{no-totals, sheet-totals}
-use Rattle.sheets.specs.Sheet.{Left, sheet-causes, sheet-job}
+use Rattle.sheet.specs.Sheet.{Left, sheet-causes, sheet-job}
 use Rattle.sheet_bytes.specs.Program.{by-input, input-job, input-limit, input-returned, program-width, word-from, words-limit, words-of}
 
 -- "at most 32,780 bytes"
@@ -78,7 +75,7 @@ module _ (input : List ℕ) {r : ℕ} (e : r ≡ min (length input) input-limit)
 
     -- what the sheet job answers for some words, with a scratch of s numbers and an output of o words
     abbrev answers : List ℕ → ℕ → ℕ → Returned
-    answers words s o = answered (sheet-causes components-size words program-width s o) (accept-words (length words))
+    answers words s o = answered (sheet-causes components-size words program-width s o) (accept-with (length words))
 
     module _ (o : List ℕ) where
       -- the call of the sheet job

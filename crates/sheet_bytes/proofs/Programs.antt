@@ -1,21 +1,17 @@
 -- What a program writes, by the answer for the bytes that it reads.
--- Assumes nothing.
-use mathlib.Core.Path.{_≡_, refl, ap, _∙_}
-use mathlib.Core.List.{List}
-use Prim.Native.Nat.{ℕ, _≤_}
+use Rattle.integers.specs.Kit.{_≡_, refl, ap, _∙_, List, ℕ, _≤_, T, lit<, length}
 use native.Mathlib.Omega.{arith}
-use lib.Dec.{T, lit<}
-use lib.ListN.{length, length-append}
+use lib.ListN.{length-append}
 use Rattle.io.specs.Counts.{Counts}
 use Rattle.integers.specs.Table.{over}
 use Rattle.integers.proofs.Overwriting.{take-over}
 use Rattle.limits.specs.Limits.{components-size}
-use Rattle.answers.specs.Answer.{Returned, accept-words, accepted}
+use Rattle.answers.specs.Answer.{Returned, accept-with, accepted}
 use Rattle.answers.specs.Job.{Job}
 use Rattle.answers.proofs.Causes as causes
 use Rattle.answers.proofs.Jobs.{refused, done}
 use Rattle.sheet_blocks.specs.Blocks.{element-scratch}
-use Rattle.sheets.proofs.Causes.{numbered, passes-checked}
+use Rattle.sheet.proofs.Causes.{numbered, passes-checked}
 use Rattle.sheet_bytes.specs.Program.{input-causes, input-job, input-returned, program-bytes, program-width, refusal-line, words-limit, words-of}
 
 -- a is the answer for the bytes, and n its number; `made` is what the program makes of an accepted sheet's words
@@ -31,11 +27,11 @@ module _ {a : Returned} (bytes : List ℕ) (e : a ≡ input-returned bytes) {n :
 
 -- an accepted sheet is answered by the count of its words, which is within the limit
 pub accepted-words : (bytes : List ℕ) → T (accepted (input-returned bytes))
-    → (input-returned bytes ≡ accept-words (length (words-of bytes))) × (length (words-of bytes) ≤ words-limit)
+    → (input-returned bytes ≡ accept-with (length (words-of bytes))) × (length (words-of bytes) ≤ words-limit)
 accepted-words bytes a =
     let words = words-of bytes in
-    let none = causes.accepted-means (input-causes bytes) (accept-words (length words)) (lit< tt, numbered components-size words program-width components-size words-limit) a in (
-      causes.accepts (input-causes bytes) (accept-words (length words)) none,
+    let none = causes.accepted-means (input-causes bytes) (accept-with (length words)) (lit< tt, numbered components-size words program-width components-size words-limit) a in (
+      causes.accepts (input-causes bytes) (accept-with (length words)) none,
       passes-checked element-scratch words program-width components-size words-limit (none .1) .output-size,
     )
 

@@ -1,16 +1,13 @@
 -- What the programs over sheets share (01, "Sheets"; 02, request 5): the bytes that they read, as words; what is answered for these; and the line
 -- of a refusal.
-use mathlib.Core.List.{List, [], _∷_, _++_}
-use Prim.Native.Nat.{ℕ, _+_, _*_, _/_, _%_, _^_}
-use lib.Dec.{eqb}
-use lib.ListN.{length, getD}
+use Rattle.integers.specs.Kit.{List, [], _∷_, _++_, ℕ, _+_, _*_, _/_, _%_, _^_, eqb, length, getD}
 use Rattle.integers.specs.Table.{table}
 use Rattle.limits.specs.Limits.{blocks-limit, components-size}
-use Rattle.answers.specs.Answer.{Returned, Cause, unless-at, answered, accept-words}
+use Rattle.answers.specs.Answer.{Returned, Cause, unless-at, answered, accept-with}
 use Rattle.answers.specs.Job.{Job, job-left}
 use Rattle.text.specs.Decimal.{decimal}
 use Rattle.sheet_checks.specs.Check.{size-of}
-use Rattle.sheets.specs.Sheet.{sheet-causes}
+use Rattle.sheet.specs.Sheet.{sheet-causes}
 
 -- "The program works at width 26"
 abbrev pub program-width : ℕ
@@ -56,18 +53,18 @@ at-text = 32 ∷ 97 ∷ 116 ∷ 32 ∷ []
 unfoldable pub refusal-line : Returned → List ℕ
 refusal-line r = refused-text ++ (decimal (r .number) ++ (at-text ++ (decimal (r .place) ++ (10 ∷ []))))
 
--- "One to three bytes over are 7 at the count of whole words, before all else"; then the causes of the sheet job, with room for every sheet
+-- "One to three bytes over are 7 at the count of whole words, before all else"; then the causes of the sheet job, with an output as long as the largest sheet, so that cause 1 never holds
 abbrev pub input-causes : List ℕ → List Cause
 input-causes input =
     unless-at (length input / 4) (eqb (length input % 4) 0) 7 ∷ sheet-causes components-size (words-of input) program-width components-size words-limit
 
 -- what is answered for the bytes that are read
 abbrev pub input-returned : List ℕ → Returned
-input-returned input = answered (input-causes input) (accept-words (length (words-of input)))
+input-returned input = answered (input-causes input) (accept-with (length (words-of input)))
 
 -- what is made of the words where they are accepted, and `other` where they are refused
 abbrev pub input-job : {A : Type 0} → (List ℕ → A) → A → List ℕ → Job A
-input-job made other input = record { causes = input-causes input; end = accept-words (length (words-of input)); result = made (words-of input); was = other }
+input-job made other input = record { causes = input-causes input; end = accept-with (length (words-of input)); result = made (words-of input); was = other }
 
 abbrev pub by-input : {A : Type 0} → (List ℕ → A) → A → List ℕ → A
 by-input made other input = job-left (input-job made other input)

@@ -1,8 +1,7 @@
 // What the programs over sheets share (01, "Sheets"; 02, request 5): the bytes that they read, as words; what the sheet job answers for these; and
 // the line of a refusal.
-ghost use mathlib.Core.Path.{_≡_};
-ghost use Prim.Native.Nat.{_+_, _/_, _≤_, min};
-ghost use lib.ListN.{length, take};
+ghost use Rattle.integers.specs.Kit.{_≡_, _+_, _/_, _≤_, length, take};
+ghost use Prim.Native.Nat.{min};
 ghost use Rattle.integers.specs.Table.{over};
 ghost use Rattle.answers.specs.Answer.{returned};
 ghost use Rattle.sheet_blocks.specs.Blocks.{coefficient-sheet};
@@ -15,9 +14,9 @@ use answers::place;
 use limits::BLOCKS_LIMIT;
 use limits::COMPONENTS;
 use limits::PLACES;
-use sheets::SheetAnswer;
-use sheets::refused;
-use sheets::sheet;
+use sheet::SheetAnswer;
+use sheet::refused;
+use sheet::sheet;
 use text::put;
 use text::put_decimal;
 

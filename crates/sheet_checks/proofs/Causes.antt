@@ -1,31 +1,25 @@
 -- The causes of a sheet as a whole, for a job that asks for no others: which sheets pass, and each way out of `check_sheet`.
--- Assumes nothing.
-use mathlib.Core.Path.{_≡_}
-use mathlib.Core.Bool.{false}
-use mathlib.Core.List.{List, [], _∷_}
-use Prim.Native.Nat.{ℕ}
-use lib.Dec.{T, eqb, lit<}
-use lib.ListN.{length}
-use borrow.Author.Tests.{ltb-true}
-use Rattle.answers.specs.Answer.{Returned, Each, Passes, Reason, holds, passes, none-holds, accept-words, accepted, answered}
+use Rattle.integers.specs.Kit.{_≡_, false, List, [], _∷_, ℕ, T, eqb, lit<, length}
+use Rattle.answers.specs.Answer.{Returned, Each, Passes, Reason, holds, passes, none-holds, accept-with, accepted, answered}
 use Rattle.answers.proofs.Causes.{excludes, only-reason, some-reason, accepted-means, refused-before, passed-before, refused-number, accepted-number}
 use Rattle.sheet_checks.specs.declared.Format.{Format}
-use Rattle.sheet_checks.specs.Check.{blocks, size-of, has-head, shape, cause-at, contents, check-causes}
-use Rattle.sheet_checks.specs.Sheets.{RightShape, RightSheet, WordFault}
+use Rattle.sheet_checks.specs.Check.{blocks, size-of, has-head, shape, contents, check-causes}
+use Rattle.sheet_checks.specs.Sheets.{ValidShape, ValidSheet, WordFault}
+use Rattle.sheet_checks.proofs.Faults.{cause-named}
 use Rattle.sheet_checks.proofs.Sheets as sheets
 use Rattle.sheet_checks.proofs.Sheets.{shape-passes, contents-pass, in-words}
 
 module _ (f : Format) (words : List ℕ) where
-  pub sheet-passes : RightSheet f words → Each Passes (check-causes f words)
-  sheet-passes S = let (h, (c, rest)) = shape-passes f words (S .right-shape) in (h, (c, (contents-pass f words S, tt)))
+  pub sheet-passes : ValidSheet f words → Each Passes (check-causes f words)
+  sheet-passes S = let (h, (c, rest)) = shape-passes f words (S .valid-shape) in (h, (c, (contents-pass f words S, tt)))
 
-  pub right-sheet : (end : Returned) → T (accepted (answered (check-causes f words) end)) → RightSheet f words
-  right-sheet end a =
-      let (h, (c, (none, rest))) = accepted-means (check-causes f words) end (lit< tt, (lit< tt, ((λ i. ltb-true 0 (cause-at f words i)), tt))) a in
-      sheets.right-sheet f words (sheets.right-shape f words h c) none
+  pub valid-sheet : (end : Returned) → T (accepted (answered (check-causes f words) end)) → ValidSheet f words
+  valid-sheet end a =
+      let (h, (c, (none, rest))) = accepted-means (check-causes f words) end (lit< tt, (lit< tt, ((λ i t. cause-named f words i), tt))) a in
+      sheets.valid-sheet f words (sheets.valid-shape f words h c) none
 
   -- where the shape is right, a refusal names the first faulty word, and its fault
-  pub refused-by-word : RightShape f words → {end r : Returned} → T (accepted end) → Reason end (check-causes f words) r → accepted r ≡ false → WordFault f words r
+  pub refused-by-word : ValidShape f words → {end r : Returned} → T (accepted end) → Reason end (check-causes f words) r → accepted r ≡ false → WordFault f words r
   refused-by-word S a R h = let (p, (q, rest)) = shape-passes f words S in go p q a R h
     where
       go : T (has-head (f .head) words) → T (eqb (length words) (size-of (blocks words))) → {end r : Returned} → T (accepted end)
@@ -38,7 +32,7 @@ module _ (f : Format) (words : List ℕ) where
   -- the shape's answer is a, and n its number
 
   abbrev end : Returned
-  end = accept-words (length words)
+  end = accept-with (length words)
 
   module _ {a : Returned} (e : a ≡ answered (shape f words) end) {n : ℕ} (g : n ≡ a .number) where
     pub wrong-shape : (n ≡ 0 → ⊥) → a ≡ answered (check-causes f words) end
@@ -50,8 +44,8 @@ module _ (f : Format) (words : List ℕ) where
       shape-right : Each Passes (shape f words)
       shape-right = accepted-means (shape f words) end (lit< tt, (lit< tt, tt)) (rw e at (accepted-number a g z))
 
-      pub shaped : RightShape f words
-      shaped = let (h, (c, rest)) = shape-right in sheets.right-shape f words h c
+      pub shaped : ValidShape f words
+      shaped = let (h, (c, rest)) = shape-right in sheets.valid-shape f words h c
 
       pub words-decide : {r : Returned} → r ≡ answered (contents f words ∷ []) end → r ≡ answered (check-causes f words) end
       words-decide {r} d =

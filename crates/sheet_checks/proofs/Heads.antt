@@ -1,13 +1,9 @@
 -- The head of a sheet, as the code looks at it: a head is allowed where the product of its sizes is neither 0 nor above the limit.
--- Assumes nothing.
-use mathlib.Core.Path.{_≡_, refl}
-use mathlib.Core.Bool.{Bool, true, false, cond, _&&_}
-use mathlib.Core.List.{List}
-use Prim.Native.Nat.{ℕ, zero, suc, _*_, _≤_, _<_, zero-le}
+use Rattle.integers.specs.Kit.{_≡_, refl, Bool, true, false, cond, _&&_, List, ℕ, zero, suc, _*_, _≤_, _<_, T, eqb, ltb, leb, length}
+use Prim.Native.Nat.{zero-le}
 use native.Mathlib.Nat.{zero-mul, mul-zero, mul-pos}
 use native.Mathlib.Omega.{arith}
-use lib.Dec.{T, eqb, ltb, leb, eqb→eq, leb→le}
-use lib.ListN.{length}
+use lib.Dec.{eqb→eq, leb→le}
 use mir.Facts.{and-yes}
 use borrow.Author.Tests.{eq-eqb, ne-eqb, lt-ltb, le-leb, lt-leb}
 use Rattle.limits.specs.Limits.{blocks-limit}
@@ -38,7 +34,9 @@ module _ (k : ℕ) (words : List ℕ) where
     module _ (e : kind (word-at words 0) ≡ k) where
       pub too-many : blocks-limit < blocks words → 0 ≡ allowed-blocks k words
       unfolding has-head
-      too-many h = rw (lt-ltb 0 (length words) some, eq-eqb (kind (word-at words 0)) k e, lt-leb (blocks words) blocks-limit h) (none (leb 1 (across (word-at words 0))) (leb 1 (down (word-at words 0))) (blocks words))
+      too-many h =
+          rw (lt-ltb 0 (length words) some, eq-eqb (kind (word-at words 0)) k e, lt-leb (blocks words) blocks-limit h)
+          (none (leb 1 (across (word-at words 0))) (leb 1 (down (word-at words 0))) (blocks words))
 
       pub allowed : blocks words ≤ blocks-limit → blocks words ≡ allowed-blocks k words
       unfolding has-head

@@ -1,14 +1,9 @@
 -- The check of a sheet of any format (01, "Sheets" and "Why a set or sheet is turned back").
-use mathlib.Core.Bool.{Bool, cond, _&&_}
-use mathlib.Core.List.{List, [], _∷_, _++_}
-use Prim.Native.Nat.{ℕ, suc, _+_, _*_}
-use lib.Dec.{eqb, ltb, leb}
-use lib.IntN.{ℤ, pos, negℤ}
-use lib.ListN.{length, getD}
+use Rattle.integers.specs.Kit.{Bool, cond, not, _&&_, _||_, List, [], _∷_, _++_, ℕ, suc, _+_, _*_, eqb, ltb, leb, ℤ, pos, negℤ, length, getD}
 use Rattle.integers.specs.Range.{outside}
 use Rattle.limits.specs.Limits.{places, blocks-limit, coefficient-limit, lowest-sample, highest-sample}
 use Rattle.words.specs.Word.{across, coefficient-head-kind, coefficient-kind, down, end-kind, kind, payload, sample-head-kind, sample-kind, value}
-use Rattle.answers.specs.Answer.{Cause, unless, unless-at, lowest-cause}
+use Rattle.answers.specs.Answer.{Cause, search, unless, unless-at}
 use Rattle.sheet_checks.specs.declared.Format.{Format}
 use Rattle.sheet_checks.specs.declared.Values.{Values}
 use Rattle.sheet_checks.specs.declared.Values.the-variants.{Samples, Coefficients}
@@ -40,7 +35,7 @@ word-at words i = getD words i 0
 abbrev pub value-at : List ℕ → ℕ → ℤ
 value-at words i = value (payload (word-at words i))
 
--- the blocks that a sheet's head announces
+-- how many blocks a sheet's head announces
 abbrev pub blocks : List ℕ → ℕ
 blocks words = across (word-at words 0) * down (word-at words 0)
 
@@ -64,29 +59,34 @@ allowed-blocks k words = cond (has-head k words) (blocks words) 0
 abbrev pub shape : Format → List ℕ → List Cause
 shape f words = unless (has-head (f .head) words) 6 ∷ unless-at (length words) (eqb (length words) (size-of (blocks words))) 7 ∷ []
 
--- the cause of a word that has a fault, "kind before value", and 0 of one that has none
+-- a word of the body has a fault, and the cause of one that has: "kind before value"
 
--- a word of the body
+unfoldable pub body-faulty : Format → ℕ → Bool
+body-faulty f w = not (eqb (kind w) (f .body)) || outside-format f (value (payload w))
+
 unfoldable pub body-cause : Format → ℕ → ℕ
-body-cause f w = cond (eqb (kind w) (f .body)) (cond (outside-format f (value (payload w))) (out-of-range (f .values)) 0) 7
+body-cause f w = cond (eqb (kind w) (f .body)) (out-of-range (f .values)) 7
 
--- the end word of n blocks
-unfoldable pub end-cause : ℕ → ℕ → ℕ
-end-cause n w = cond (eqb (kind w) end-kind) (cond (eqb (payload w) n) 0 8) 7
+-- the same of the end word of n blocks
 
--- word i: the head's causes are asked before, and the last word is the end word
+unfoldable pub end-faulty : ℕ → ℕ → Bool
+end-faulty n w = not (eqb (kind w) end-kind) || not (eqb (payload w) n)
+
+unfoldable pub end-cause : ℕ → ℕ
+end-cause w = cond (eqb (kind w) end-kind) 8 7
+
+-- the same of word i: the head's causes are asked before, and the last word is the end word
+
+unfoldable pub faulty : Format → List ℕ → ℕ → Bool
+faulty f words i =
+    ltb 0 i && cond (eqb (suc i) (length words)) (end-faulty (blocks words) (word-at words i)) (body-faulty f (word-at words i))
+
 unfoldable pub cause-at : Format → List ℕ → ℕ → ℕ
-cause-at f words i =
-    cond (eqb i 0) 0
-    (cond (eqb (suc i) (length words)) (end-cause (blocks words) (word-at words i)) (body-cause f (word-at words i)))
-
--- whether it has a fault
-abbrev pub faulty : Format → List ℕ → ℕ → Bool
-faulty f words i = ltb 0 (cause-at f words i)
+cause-at f words i = cond (eqb (suc i) (length words)) (end-cause (word-at words i)) (body-cause f (word-at words i))
 
 -- "then the first faulty word"
 abbrev pub contents : Format → List ℕ → Cause
-contents f words = lowest-cause (length words) (cause-at f words)
+contents f words = search (length words) (faulty f words) (λ i. record { number = cause-at f words i; place = i })
 
 -- the causes of a sheet, for a job that asks for no others
 abbrev pub check-causes : Format → List ℕ → List Cause

@@ -1,16 +1,11 @@
 // The check of a sheet (01, "Sheets"): does it begin with a head of the right kind whose sizes are allowed, does it have as many words as they ask
 // for, and which of these is the first that has a fault? The format is a parameter, so that every kind of sheet can have the same check.
-ghost use mathlib.Core.Path.{_≡_};
-ghost use mathlib.Core.Bool.{true};
-ghost use mathlib.Core.List.{[], _∷_};
-ghost use Prim.Native.Nat.{_<_, _≤_};
-ghost use lib.Dec.{ltb};
-ghost use lib.ListN.{length};
+ghost use Rattle.integers.specs.Kit.{_≡_, true, [], _∷_, _<_, _≤_, length};
 ghost use Rattle.integers.specs.Search.{any};
 ghost use Rattle.limits.specs.Limits.{blocks-limit};
-ghost use Rattle.answers.specs.Answer.{accept-words, answered, returned};
+ghost use Rattle.answers.specs.Answer.{accept-with, answered, returned};
 ghost use Rattle.sheet_checks.specs.Check as check;
-ghost use Rattle.sheet_checks.specs.Sheets.{RightShape};
+ghost use Rattle.sheet_checks.specs.Sheets.{ValidShape};
 use answers::Answer;
 use answers::number;
 use integers::outside;
@@ -91,7 +86,7 @@ fn blocks_of(head: u32, sheet: &[u32]) -> usize
 
 // The check of the head and of the count of words.
 pub fn check_shape(f: Format, sheet: &[u32]) -> Answer
-    ensures { λ r. ⌜ returned r ≡ answered (check.shape f (now (sheet .entry))) (accept-words (length (now (sheet .entry)))) ⌝ }
+    ensures { λ r. ⌜ returned r ≡ answered (check.shape f (now (sheet .entry))) (accept-with (length (now (sheet .entry)))) ⌝ }
 {
     let n = blocks_of(f.head, sheet);
     if n == 0 {
@@ -105,7 +100,7 @@ pub fn check_shape(f: Format, sheet: &[u32]) -> Answer
 
 // Whether a word of the body has a fault.
 fn body_faulty(f: Format, w: u32) -> bool
-    ensures { λ r. ⌜ r ≡ ltb 0 (check.body-cause f w) ⌝ }
+    ensures { λ r. ⌜ r ≡ check.body-faulty f w ⌝ }
 {
     if kind(w) != f.body {
         return true;
@@ -115,7 +110,7 @@ fn body_faulty(f: Format, w: u32) -> bool
 
 // Whether the end word of n blocks has one.
 fn end_faulty(n: usize, w: u32) -> bool
-    ensures { λ r. ⌜ r ≡ ltb 0 (check.end-cause n w) ⌝ }
+    ensures { λ r. ⌜ r ≡ check.end-faulty n w ⌝ }
 {
     if kind(w) != END {
         return true;
@@ -151,7 +146,6 @@ fn out_of_range(v: Values, i: usize) -> Answer
 
 // The refusal of a word of the body that has a fault, at index i: kind before value.
 fn body_refusal(f: Format, w: u32, i: usize) -> Answer
-    requires { ⌜ 0 < check.body-cause f w ⌝ }
     ensures { λ r. ⌜ returned r ≡ record { number = check.body-cause f w; place = i } ⌝ }
 {
     if kind(w) != f.body {
@@ -161,10 +155,9 @@ fn body_refusal(f: Format, w: u32, i: usize) -> Answer
     out_of_range(values, i)
 }
 
-// The refusal of the end word of n blocks, which has a fault, at index i.
-fn end_refusal(n: usize, w: u32, i: usize) -> Answer
-    requires { ⌜ 0 < check.end-cause n w ⌝ }
-    ensures { λ r. ⌜ returned r ≡ record { number = check.end-cause n w; place = i } ⌝ }
+// The refusal of an end word that has a fault, at index i.
+fn end_refusal(w: u32, i: usize) -> Answer
+    ensures { λ r. ⌜ returned r ≡ record { number = check.end-cause w; place = i } ⌝ }
 {
     if kind(w) != END {
         return Answer::Words(i);
@@ -177,7 +170,7 @@ fn first_faulty(f: Format, n: usize, sheet: &[u32]) -> Answer
     requires { ⌜ n ≡ check.blocks (now sheet) ⌝ }
     requires { ⌜ 1 < length (now sheet) ⌝ }
     requires { ⌜ any (length (now sheet)) (check.faulty f (now sheet)) ≡ true ⌝ }
-    ensures { λ r. ⌜ returned r ≡ answered (check.contents f (now (sheet .entry)) ∷ []) (accept-words (length (now (sheet .entry)))) ⌝ }
+    ensures { λ r. ⌜ returned r ≡ answered (check.contents f (now (sheet .entry)) ∷ []) (accept-with (length (now (sheet .entry)))) ⌝ }
 {
     let last = sheet.len() - 1;
     let mut i = 1;
@@ -188,13 +181,13 @@ fn first_faulty(f: Format, n: usize, sheet: &[u32]) -> Answer
         }
         i += 1;
     }
-    end_refusal(n, sheet[last], last)
+    end_refusal(sheet[last], last)
 }
 
 // The check of the words of a sheet whose head and count are right.
 pub fn check_words(f: Format, sheet: &[u32]) -> Answer
-    requires { ⌜ RightShape f (now sheet) ⌝ }
-    ensures { λ r. ⌜ returned r ≡ answered (check.contents f (now (sheet .entry)) ∷ []) (accept-words (length (now (sheet .entry)))) ⌝ }
+    requires { ⌜ ValidShape f (now sheet) ⌝ }
+    ensures { λ r. ⌜ returned r ≡ answered (check.contents f (now (sheet .entry)) ∷ []) (accept-with (length (now (sheet .entry)))) ⌝ }
 {
     let n = words::blocks(sheet[0]) as usize;
     if any_faulty(f, n, sheet) {
@@ -205,7 +198,7 @@ pub fn check_words(f: Format, sheet: &[u32]) -> Answer
 
 // The whole check, of a job that asks for nothing else.
 pub fn check_sheet(f: Format, sheet: &[u32]) -> Answer
-    ensures { λ r. ⌜ returned r ≡ answered (check.check-causes f (now (sheet .entry))) (accept-words (length (now (sheet .entry)))) ⌝ }
+    ensures { λ r. ⌜ returned r ≡ answered (check.check-causes f (now (sheet .entry))) (accept-with (length (now (sheet .entry)))) ⌝ }
 {
     let shape = check_shape(f, sheet);
     if number(shape) != 0 {

@@ -1,73 +1,99 @@
--- The lowest and the highest value of a coefficient sheet, as the loops along a block and along the sheet keep them.
--- Assumes nothing.
-use mathlib.Core.Path.{_≡_, refl, ap, ap₂, _∙_}
-use mathlib.Core.Bool.{Bool, true, false, cond}
-use mathlib.Core.List.{List}
-use Prim.Native.Nat.{ℕ, suc, _+_, _-_, _*_, _^_, _≤_, _<_}
+-- The least and the greatest value of words: what they are, and how the loops along a block and along the sheet keep them. Both are what is picked by an
+-- order, for which the laws are stated.
+use Rattle.integers.specs.Kit.{_≡_, refl, ap, ap₂, _∙_, Bool, true, false, cond, List, ℕ, zero, suc, _+_, _-_, _*_, _^_, _≤_, _<_, lit<, lit≤, ℤ, natAbs, length}
 use native.Mathlib.Nat.{lt-of-le-of-lt}
+use native.Mathlib.Decide.{decLt}
 use native.Mathlib.Omega.{arith}
-use lib.Dec.{lit<, lit≤}
-use lib.Ieee.{Float, lt}
-use lib.IntN.{ℤ, natAbs}
-use lib.ListN.{length}
+use lib.Ieee.{Float}
 use lib.Signed.{ltZ}
 use mir.Syntax.{w32}
 use mir.Val.{ofZ, toZ}
-use Rattle.integers.specs.Search.{foremost}
 use Rattle.integers.proofs.Foremost as order
-use Rattle.integers.proofs.Foremost.{Order, BestValue, less-level, range-best, best-value-first, best-value-next, best-value-joined, best-value-foremost}
+use Rattle.integers.proofs.Foremost.{Order, irreflexive, not-before}
 use Rattle.integers.proofs.Signed.{in32, kept}
 use Rattle.limits.specs.Limits.{places, coefficient-limit}
-use Rattle.floats.specs.Fraction.{coefficient-float}
-use Rattle.floats.proofs.Comparison.{in-order}
-use Rattle.floats.proofs.Fractions.{exact-limit, few-digits}
+use Rattle.floats.specs.Fraction.{coefficient-float, exact-limit}
+use Rattle.floats.proofs.Fractions.{few-digits}
 use Rattle.sheet_checks.specs.Check.{coefficient-format, value-at, blocks}
-use Rattle.sheet_checks.specs.Sheets.{RightSheet}
+use Rattle.sheet_checks.specs.Sheets.{ValidSheet}
 use Rattle.sheet_checks.proofs.Sheets.{some-blocks, coefficients-in-limit}
 use Rattle.sheet_range.specs.Preconditions.{InBody}
-use Rattle.sheet_range.specs.SheetRange.{float-at, has-lower, has-higher, lowest-word, highest-word, lowest-float, highest-float}
+use Rattle.sheet_range.specs.SheetRange.{picked}
 
-module _ (words : List ℕ) where
-  pub by-lower : Order (has-lower words)
-  by-lower = order.lower-first (value-at words)
+-- the lower comes first, and the higher
 
-  pub by-higher : Order (has-higher words)
-  by-higher = order.higher-first (value-at words)
+pub by-lower : Order ltZ
+by-lower = order.lower-first (λ z. z)
 
--- the values of the words have few digits, and their floats their order
+pub by-higher : Order (λ y z. ltZ z y)
+by-higher = order.higher-first (λ z. z)
 
-module _ {words : List ℕ} (S : RightSheet coefficient-format words) where
-  pub in-digits : (i : ℕ) → 1 ≤ i → suc i < length words → natAbs (value-at words i) < exact-limit
-  in-digits i h l = few-digits (value-at words i) (coefficients-in-limit S i h l)
+-- of x and y the one that comes first, and x where neither does
+abbrev pub pick : (ℤ → ℤ → Bool) → ℤ → ℤ → ℤ
+pick before x y = cond (before y x) y x
 
-  floats-order : (i j : ℕ) → 1 ≤ i → suc i < length words → 1 ≤ j → suc j < length words → lt (float-at words i) (float-at words j) ≡ ltZ (value-at words i) (value-at words j)
-  floats-order i j h l k m = in-order 3 (value-at words i) (value-at words j) (lit≤ tt) (in-digits i h l) (in-digits j k m)
+module _ {before : ℤ → ℤ → Bool} (O : Order before) where
+  pick-assoc : (x y z : ℤ) → pick before (pick before x y) z ≡ pick before x (pick before y z)
+  pick-assoc x y z = go (before y x) (before z y) refl refl
+    where
+      go : (t u : Bool) → before y x ≡ t → before z y ≡ u → pick before (cond t y x) z ≡ pick before x (cond u z y)
+      go true true e g = rw (g, O .weak z x y e (O .asymmetric z y g))
+      go true false e g = rw (g, e)
+      go false true e g = refl
+      go false false e g = rw (e, not-before O y x z e g)
 
--- two words that are level have one value
+  module _ (f : ℕ → ℤ) where
+    -- two stretches, one after the other
+    pub picked-joined : (a m n : ℕ) → picked (pick before) f a (m + suc n) ≡ pick before (picked (pick before) f a m) (picked (pick before) f (a + suc m) n)
+    unfolding picked
+    picked-joined a m zero = let e : m + 1 ≡ suc m = omega arith in rw e
+    picked-joined a m (suc n) =
+        let e : m + suc (suc n) ≡ suc (m + suc n) = omega arith in
+        let i : a + suc (m + suc n) ≡ a + suc m + suc n = omega arith in
+        rw (e, i, picked-joined a m n) (pick-assoc _ _ _)
 
-level-by-lower : (words : List ℕ) (p q : ℕ) → has-lower words p q ≡ false → has-lower words q p ≡ false → value-at words p ≡ value-at words q
-level-by-lower words p q e f = less-level (value-at words p) (value-at words q) e f
+    -- what all have, the one that is picked has
+    pub picked-has : (P : ℤ → Type 0) (a n : ℕ) → ((j : ℕ) → a ≤ j → j ≤ a + n → P (f j)) → P (picked (pick before) f a n)
+    unfolding picked
+    picked-has P a zero h = h a (omega arith) (omega arith)
+    picked-has P a (suc n) h = go (before (f (a + suc n)) _) (picked-has P a n (λ j k l. h j k (omega arith))) (h (a + suc n) (omega arith) (omega arith))
+      where
+        go : {x y : ℤ} (t : Bool) → P x → P y → P (cond t y x)
+        go true p q = q
+        go false p q = p
 
-level-by-higher : (words : List ℕ) (p q : ℕ) → has-higher words p q ≡ false → has-higher words q p ≡ false → value-at words p ≡ value-at words q
-level-by-higher words p q e f = less-level (value-at words p) (value-at words q) f e
+    -- none comes before it
+    pub picked-first : (a n j : ℕ) → a ≤ j → j ≤ a + n → before (f j) (picked (pick before) f a n) ≡ false
+    unfolding picked
+    picked-first a zero j h l = let e : j ≡ a = omega arith in rw e (irreflexive O (f a))
+    picked-first a (suc n) j h l = go _ (before (f (a + suc n)) _) refl (λ k. picked-first a n j h k) (decLt (a + n) j)
+      where
+        go : (m : ℤ) (t : Bool) → before (f (a + suc n)) m ≡ t → (j ≤ a + n → before (f j) m ≡ false) → Dec (a + n < j)
+            → before (f j) (cond t (f (a + suc n)) m) ≡ false
+        go m true e r (yes k) = let i : j ≡ a + suc n = omega arith in rw i (irreflexive O (f (a + suc n)))
+        go m true e r (no k) = not-before O m (f (a + suc n)) (f j) (O .asymmetric (f (a + suc n)) m e) (r (omega arith))
+        go m false e r (yes k) = let i : j ≡ a + suc n = omega arith in rw i e
+        go m false e r (no k) = r (omega arith)
 
--- along a block: the lowest and the highest value from a on and before i, as i32 hold them
+-- of the values of word a and the n words behind it, the one that comes first
+abbrev pub extreme : (ℤ → ℤ → Bool) → List ℕ → ℕ → ℕ → ℤ
+extreme before words = picked (pick before) (value-at words)
 
-abbrev held : List ℕ → ℕ → ℕ
-held words i = ofZ w32 (value-at words i)
+-- along a block: v holds the extreme of word a and of those behind it before word i, as an i32
 
-pub record BlockExtremes (words : List ℕ) (a i low high : ℕ) : Type 0 where
-  pub some : a < i
-  pub room : i ≤ a + places
-  pub lowest : BestValue a (has-lower words) (held words) i low
-  pub highest : BestValue a (has-higher words) (held words) i high
+pub record BlockExtreme (before : ℤ → ℤ → Bool) (words : List ℕ) (a i v : ℕ) : Type 0 where
+  pub body : InBody words a
+  pub behind : ℕ
+  pub here : i ≡ a + suc behind
+  pub room : behind < places
+  pub is : toZ w32 v ≡ extreme before words a behind
 
 module _ {words : List ℕ} {a : ℕ} (B : InBody words a) where
   -- a sheet is short, so that indices fit
   pub low-index : a + places < 2 ^ 16
-  low-index = let l = B .room in omega (arith, B .right .right-shape .count, B .right .right-shape .few-blocks)
+  low-index = let l = B .room in omega (arith, B .right .valid-shape .count, B .right .valid-shape .few-blocks)
 
-  -- the block's values are small, and read back as they are
+  -- the values of the block are small, and read back as they are
 
   at-most : (i : ℕ) → a ≤ i → i < a + places → natAbs (value-at words i) ≤ coefficient-limit
   at-most i h l = let m = B .from in let k = B .room in coefficients-in-limit (B .right) i (omega arith) (omega arith)
@@ -75,145 +101,103 @@ module _ {words : List ℕ} {a : ℕ} (B : InBody words a) where
   read : (i : ℕ) → a ≤ i → i < a + places → in32 (value-at words i) ≡ value-at words i
   read i h l = kept w32 (value-at words i) (lt-of-le-of-lt (at-most i h l) (lit< tt))
 
-  pub values-first : {z : ℤ} → z ≡ value-at words a → BlockExtremes words a (a + 1) (ofZ w32 z) (ofZ w32 z)
-  values-first e = record {
-    some = omega arith;
-    room = omega arith;
-    lowest = best-value-first (by-lower words) a (ap (ofZ w32) e);
-    highest = best-value-first (by-higher words) a (ap (ofZ w32) e);
-  }
+  pub value-first : {before : ℤ → ℤ → Bool} {z : ℤ} → z ≡ value-at words a → BlockExtreme before words a (a + 1) (ofZ w32 z)
+  unfolding picked
+  value-first e =
+      record { body = B; behind = 0; here = omega arith; room = lit< tt; is = ap in32 e ∙ read a (omega arith) (omega arith) }
 
-  -- v is the value of the best in the order `before`
-  module _ {before : ℕ → ℕ → Bool} (O : Order before) {i v : ℕ} (l : i ≤ a + places) (K : BestValue a before (held words) i v) where
-    index-value : toZ w32 v ≡ value-at words (K .index)
-    index-value = let h = K .best .below in ap (toZ w32) (K .has) ∙ read (K .index) (K .best .from) (omega arith)
+  small : {before : ℤ → ℤ → Bool} → Order before → (n : ℕ) → n < places → natAbs (extreme before words a n) ≤ coefficient-limit
+  small O n h = picked-has O (value-at words) (λ z. natAbs z ≤ coefficient-limit) a n (λ j g l. at-most j g (omega arith))
 
-    index-small : natAbs (toZ w32 v) ≤ coefficient-limit
-    index-small =
-        let h = K .best .below in
-        rw index-value (at-most (K .index) (K .best .from) (omega arith))
+module _ {before : ℤ → ℤ → Bool} (O : Order before) {words : List ℕ} {a i v : ℕ} (R : BlockExtreme before words a i v) where
+  -- r is picked of it and of the value z of the next word
+  pub value-next : i < a + places → {z r : ℤ} → z ≡ value-at words i → r ≡ pick before (toZ w32 v) (in32 z) → BlockExtreme before words a (i + 1) (ofZ w32 r)
+  unfolding picked
+  value-next m {z} e f =
+      let n = suc (R .behind) in
+      let l : n < places = omega (arith, R .here) in
+      let at : in32 z ≡ value-at words (a + n) = ap in32 (e ∙ ap (value-at words) (R .here)) ∙ read (R .body) (a + n) (omega arith) (omega arith) in
+      record {
+        body = R .body;
+        behind = n;
+        here = omega (arith, R .here);
+        room = l;
+        is = ap in32 (f ∙ ap₂ (pick before) (R .is) at) ∙ kept w32 _ (lt-of-le-of-lt (small (R .body) O n l) (lit< tt));
+      }
 
-    -- one more, of the value z; r is the one of the two that comes first
-    with-next : a < i → i < a + places → {z r : ℤ} {t : Bool} → z ≡ value-at words i → t ≡ before i (K .index) → r ≡ cond t (in32 z) (toZ w32 v)
-        → BestValue a before (held words) (i + 1) (ofZ w32 r)
-    with-next h m {z} {r} {t} e f g =
-        let x : in32 z ≡ value-at words i = ap in32 e ∙ read i (omega arith) m in
-        rw (g, x, index-value, stored t, ← K .has) (best-value-next O K refl f)
-      where
-        stored : (t : Bool) → ofZ w32 (cond t (value-at words i) (value-at words (K .index))) ≡ cond t (held words i) (held words (K .index))
-        stored true = refl
-        stored false = refl
+  pub value-small : natAbs (toZ w32 v) ≤ coefficient-limit
+  value-small = rw (R .is) (small (R .body) O (R .behind) (R .room))
 
-    -- past the block it is the foremost's
-    at-block-end : ((p q : ℕ) → before p q ≡ false → before q p ≡ false → value-at words p ≡ value-at words q) → i ≡ a + places
-        → toZ w32 v ≡ value-at words (foremost a (a + places) before)
-    at-block-end level e =
-        let last : BestValue a before (value-at words) (a + places) (value-at words (K .index)) = record { index = K .index; best = rw e at (K .best); has = refl } in
-        index-value ∙ best-value-foremost O level last
+  -- past the block
+  pub block-extreme : a + places ≤ i → toZ w32 v ≡ extreme before words a (places - 1)
+  block-extreme e = let all : R .behind ≡ places - 1 = omega (arith, R .here, R .room) in rw all at (R .is)
 
-  module _ {i low high : ℕ} (R : BlockExtremes words a i low high) where
-    pub values-next : i < a + places → {z r s : ℤ} → z ≡ value-at words i → r ≡ cond (ltZ (in32 z) (toZ w32 low)) (in32 z) (toZ w32 low)
-        → s ≡ cond (ltZ (toZ w32 high) (in32 z)) (in32 z) (toZ w32 high) → BlockExtremes words a (i + 1) (ofZ w32 r) (ofZ w32 s)
-    values-next m {z} e f g =
-        let h = R .some in
-        let x : in32 z ≡ value-at words i = ap in32 e ∙ read i (omega arith) m in
-        record {
-          some = omega arith;
-          room = omega arith;
-          lowest = with-next (by-lower words) (R .room) (R .lowest) h m e (ap₂ ltZ x (index-value (by-lower words) (R .room) (R .lowest))) f;
-          highest = with-next (by-higher words) (R .room) (R .highest) h m e (ap₂ ltZ (index-value (by-higher words) (R .room) (R .highest)) x) g;
-        }
+-- along the sheet: x is the float of the extreme of the first block and `more` others, before word i
 
-    pub lowest-small : natAbs (toZ w32 low) ≤ coefficient-limit
-    lowest-small = index-small (by-lower words) (R .room) (R .lowest)
+pub record SheetExtreme (before : ℤ → ℤ → Bool) (words : List ℕ) (i : ℕ) (x : Float) : Type 0 where
+  pub right : ValidSheet coefficient-format words
+  pub more : ℕ
+  pub here : i ≡ 1 + places * suc more
+  pub room : more < blocks words
+  pub is : x ≡ coefficient-float (extreme before words 1 (places - 1 + places * more))
 
-    pub highest-small : natAbs (toZ w32 high) ≤ coefficient-limit
-    highest-small = index-small (by-higher words) (R .room) (R .highest)
+-- the float of one of two
+of-one : (t : Bool) (y z : ℤ) → cond t (coefficient-float y) (coefficient-float z) ≡ coefficient-float (cond t y z)
+of-one true y z = refl
+of-one false y z = refl
 
-    -- past the block
-    module _ (e : a + places ≤ i) where
-      all : i ≡ a + places
-      all = omega (arith, R .room)
-
-      pub block-lowest : toZ w32 low ≡ value-at words (lowest-word words a (a + places))
-      block-lowest = at-block-end (by-lower words) (R .room) (R .lowest) (level-by-lower words) all
-
-      pub block-highest : toZ w32 high ≡ value-at words (highest-word words a (a + places))
-      block-highest = at-block-end (by-higher words) (R .room) (R .highest) (level-by-higher words) all
-
--- along the sheet: the lowest and the highest float of the first `passed` blocks, before word i
-
-pub record SheetExtremes (words : List ℕ) (i : ℕ) (low high : Float) : Type 0 where
-  pub passed : ℕ
-  pub here : i ≡ 1 + places * passed
-  pub room : passed ≤ blocks words
-  pub lowest : BestValue 1 (has-lower words) (float-at words) i low
-  pub highest : BestValue 1 (has-higher words) (float-at words) i high
-
--- the range of the block at word a
-abbrev Lowest : List ℕ → ℕ → Float → Type 0
-Lowest words a x = x ≡ float-at words (lowest-word words a (a + places))
-
-abbrev Highest : List ℕ → ℕ → Float → Type 0
-Highest words a x = x ≡ float-at words (highest-word words a (a + places))
-
-module _ {words : List ℕ} (S : RightSheet coefficient-format words) where
-  count : length words ≡ 2 + places * blocks words
-  count = S .right-shape .count
-
+module _ {words : List ℕ} (S : ValidSheet coefficient-format words) where
   pub first-body : InBody words 1
-  first-body = let b = some-blocks (S .right-shape) in record { right = S; from = lit≤ tt; room = omega (arith, count) }
+  first-body = let b = some-blocks (S .valid-shape) in record { right = S; from = lit≤ tt; room = omega (arith, S .valid-shape .count) }
 
-  abbrev block-low : (a : ℕ) {x : Float} → Lowest words a x → BestValue a (has-lower words) (float-at words) (a + places) x
-  block-low a e = record { index = lowest-word words a (a + places); best = range-best (by-lower words) (omega arith); has = e }
+  -- a value has few digits, and so has an extreme
 
-  abbrev block-high : (a : ℕ) {x : Float} → Highest words a x → BestValue a (has-higher words) (float-at words) (a + places) x
-  block-high a e = record { index = highest-word words a (a + places); best = range-best (by-higher words) (omega arith); has = e }
+  pub in-digits : (i : ℕ) → 1 ≤ i → suc i < length words → natAbs (value-at words i) < exact-limit
+  in-digits i h l = few-digits (value-at words i) (coefficients-in-limit S i h l)
 
-  pub floats-first : {x y : Float} → Lowest words 1 x → Highest words 1 y → SheetExtremes words (1 + places) x y
-  floats-first e f = record { passed = 1; here = refl; room = some-blocks (S .right-shape); lowest = block-low 1 e; highest = block-high 1 f }
+  pub extreme-digits : {before : ℤ → ℤ → Bool} → Order before → (a n : ℕ) → 1 ≤ a → suc (a + n) < length words → natAbs (extreme before words a n) < exact-limit
+  extreme-digits O a n h l = picked-has O (value-at words) (λ z. natAbs z < exact-limit) a n (λ j g k. in-digits j (omega arith) (omega arith))
 
-  module _ {i : ℕ} {low high : Float} (F : SheetExtremes words i low high) where
-    module _ (l : i < length words - 1) where
-      more : F .passed < blocks words
-      more = omega (arith, F .here, count)
+  pub float-first : {before : ℤ → ℤ → Bool} {x : Float} → x ≡ coefficient-float (extreme before words 1 (places - 1)) → SheetExtreme before words (1 + places) x
+  float-first e = record { right = S; more = 0; here = refl; room = some-blocks (S .valid-shape); is = e }
 
-      pub next-body : InBody words i
-      next-body = record { right = S; from = omega (arith, F .here); room = omega (arith, F .here, more, count) }
+module _ {before : ℤ → ℤ → Bool} (O : Order before) {words : List ℕ} {i : ℕ} {x : Float} (F : SheetExtreme before words i x) where
+  count : length words ≡ 2 + places * blocks words
+  count = F .right .valid-shape .count
 
-      -- q is of the block at word i, and j before it: the floats that they have are in the order of their values
-      in-body-order : (q j : ℕ) → i ≤ q → q < i + places → 1 ≤ j → j < i
-          → (lt (float-at words q) (float-at words j) ≡ ltZ (value-at words q) (value-at words j))
-          × (lt (float-at words j) (float-at words q) ≡ ltZ (value-at words j) (value-at words q))
-      in-body-order q j h k m n =
-          let r = next-body .room in
-          let f = next-body .from in
-          (floats-order S q j (omega arith) (omega arith) m (omega arith), floats-order S j q m (omega arith) (omega arith) (omega arith))
+  -- past the last block
+  pub sheet-extreme : length words - 1 ≤ i → x ≡ coefficient-float (extreme before words 1 (length words - 3))
+  sheet-extreme l =
+      let done : places - 1 + places * F .more ≡ length words - 3 = omega (arith, F .here, F .room, count) in
+      rw done at (F .is)
 
-      pub floats-next : {x y : Float} → Lowest words i x → Highest words i y
-          → SheetExtremes words (i + places) (cond (lt x low) x low) (cond (lt high y) y high)
-      floats-next e f =
-          let K = F .lowest .best in
-          let H = F .highest .best in
-          let L = range-best (by-lower words) {a = i} {n = i + places} (omega arith) in
-          let M = range-best (by-higher words) {a = i} {n = i + places} (omega arith) in
-          record {
-            passed = suc (F .passed);
-            here = omega (arith, F .here);
-            room = more;
-            lowest = best-value-joined (by-lower words) (F .lowest) (block-low i e)
-                (ap₂ lt e (F .lowest .has) ∙ in-body-order _ _ (L .from) (L .below) (K .from) (K .below) .0);
-            highest = best-value-joined (by-higher words) (F .highest) (block-high i f)
-                (ap₂ lt (F .highest .has) f ∙ in-body-order _ _ (M .from) (M .below) (H .from) (H .below) .1);
-          }
+  module _ (l : i < length words - 1) where
+    more-blocks : suc (F .more) < blocks words
+    more-blocks = omega (arith, F .here, count)
 
-    -- past the last block
-    module _ (l : length words - 1 ≤ i) where
-      done : i ≡ length words - 1
-      done = omega (arith, F .here, F .room, count)
+    pub next-body : InBody words i
+    next-body = record { right = F .right; from = omega (arith, F .here); room = omega (arith, F .here, more-blocks, count) }
 
-      pub sheet-lowest : low ≡ lowest-float words
-      sheet-lowest = best-value-foremost (by-lower words) (λ p q e f. ap coefficient-float (level-by-lower words p q e f)) (rw done at (F .lowest))
+    -- the extremes before word i, and of the block there, have few digits
+    pub both-digits : (natAbs (extreme before words 1 (places - 1 + places * F .more)) < exact-limit) × (natAbs (extreme before words i (places - 1)) < exact-limit)
+    both-digits =
+        let k = next-body .room in (
+          extreme-digits (F .right) O 1 (places - 1 + places * F .more) (lit≤ tt) (omega (arith, F .here)),
+          extreme-digits (F .right) O i (places - 1) (next-body .from) (omega arith),
+        )
 
-      pub sheet-highest : high ≡ highest-float words
-      sheet-highest = best-value-foremost (by-higher words) (λ p q e f. ap coefficient-float (level-by-higher words p q e f)) (rw done at (F .highest))
+    -- y is the float of the block's, and t says whether it comes first
+    pub float-next : {y : Float} {t : Bool} → y ≡ coefficient-float (extreme before words i (places - 1))
+        → t ≡ before (extreme before words i (places - 1)) (extreme before words 1 (places - 1 + places * F .more))
+        → SheetExtreme before words (i + places) (cond t y x)
+    float-next e g =
+        let n = places - 1 + places * F .more in
+        let a : 1 + suc n ≡ i = omega (arith, F .here) in
+        let m : n + suc (places - 1) ≡ places - 1 + places * suc (F .more) = omega arith in
+        record {
+          right = F .right;
+          more = suc (F .more);
+          here = omega (arith, F .here);
+          room = more-blocks;
+          is = rw (e, F .is, g, of-one _ (extreme before words i (places - 1)) (extreme before words 1 n), ← a, ← m, picked-joined O (value-at words) 1 n (places - 1));
+        }

@@ -1,56 +1,53 @@
 -- What a call of `sheet_range` gives, in 02's words (request 4); and that what `sheet` writes is a sheet that it accepts.
--- Assumes nothing.
-use mathlib.Core.Path.{_≡_, sym, ap, ap₂, _∙_}
-use mathlib.Core.Bool.{false}
-use mathlib.Core.List.{List}
-use Prim.Native.Nat.{ℕ, suc, _+_, _-_, _*_, _/_, _%_, _≤_, _<_}
+use Rattle.integers.specs.Kit.{_≡_, refl, sym, ap, ap₂, _∙_, Bool, false, List, ℕ, suc, _+_, _-_, _*_, _/_, _%_, _≤_, _<_, T, lit<, lit≤, ℤ, pos, natAbs, length, getD}
 use native.Mathlib.Nat.{div-add-mod, mod-lt}
 use native.Mathlib.Omega.{arith}
-use lib.Dec.{T, lit<, lit≤}
-use lib.Ieee.{le}
+use lib.Ieee.{Float, le}
 use lib.Ieee.Exact.{HasValue}
-use lib.IntN.{ℤ, pos, natAbs}
-use lib.ListN.{length, getD}
 use Rattle.integers.proofs.Ranges.{not-beyond}
-use Rattle.integers.proofs.Foremost.{Best, range-best}
+use Rattle.integers.proofs.Foremost.{Order}
 use Rattle.limits.specs.Limits.{places, coefficient-limit}
 use Rattle.answers.specs.Answer.{accept}
 use Rattle.answers.specs.Job.{job-returned, job-left, Accepts}
 use Rattle.answers.proofs.Jobs.{accepted-leaves}
-use Rattle.floats.specs.Fraction.{negative}
+use Rattle.floats.specs.Fraction.{coefficient-float, negative}
 use Rattle.floats.proofs.Comparison.{in-order-at-most}
 use Rattle.floats.proofs.Fractions.{exact}
-use Rattle.element_sets.proofs.Blocks.{block-set}
-use Rattle.rounding.proofs.Blocks.{coefficient-size}
+use Rattle.element_sets.proofs.Limit.{block-set}
+use Rattle.coefficients.proofs.Blocks.{coefficient-size}
 use Rattle.words.specs.Word.{across, coefficient-head-kind, coefficient-kind, down, kind, payload}
 use Rattle.sheet_checks.specs.Check.{sample-format, coefficient-format, outside-format, word-at, value-at, blocks, size-of}
-use Rattle.sheet_checks.specs.Sheets.{RightShape, RightSheet}
+use Rattle.sheet_checks.specs.Sheets.{ValidShape, ValidSheet}
 use Rattle.sheet_checks.proofs.Sheets.{some-blocks}
 use Rattle.sheet_blocks.specs.Blocks.{Scratch, block, block-coefficients}
 use Rattle.sheet_blocks.specs.Preconditions.{Checked}
 use Rattle.sheet_blocks.proofs.Samples.{block-range, block-words}
-use Rattle.sheets.specs.Sheet.{sheet-job}
-use Rattle.sheets.proofs.Causes.{accepted-checked}
-use Rattle.sheets.proofs.Meaning as sheets
-use Rattle.sheet_range.specs.declared.Range.{Range}
-use Rattle.sheet_range.specs.SheetRange.{range-job, float-at, has-lower, has-higher, lowest-word, highest-word}
+use Rattle.sheet.specs.Sheet.{sheet-job}
+use Rattle.sheet.proofs.Causes.{accepted-checked}
+use Rattle.sheet.proofs.Meaning as sheets
+use Rattle.sheet_range.specs.SheetRange.{range-job}
 use Rattle.sheet_range.proofs.Causes.{accepts, accepted-means}
-use Rattle.sheet_range.proofs.Extremes.{by-lower, by-higher, in-digits}
+use Rattle.sheet_range.proofs.Extremes.{by-lower, by-higher, extreme, extreme-digits, in-digits, picked-first, picked-has}
+
+-- the float of word i's coefficient
+abbrev pub float-at : List ℕ → ℕ → Float
+float-at words i = coefficient-float (value-at words i)
+
+-- x is the float of a word between the head and the end word
+pub record Attained (words : List ℕ) (x : Float) : Type 0 where
+  pub index : ℕ
+  pub behind-head : 1 ≤ index
+  pub before-end : suc index < length words
+  pub has : x ≡ float-at words index
 
 -- an accepted call
 
 module _ (words : List ℕ) (h : Accepts (range-job words)) where
-  S : RightSheet coefficient-format words
+  S : ValidSheet coefficient-format words
   S = accepted-means words h
 
-  some : 1 < length words - 1
-  some = omega (arith, S .right-shape .count, some-blocks (S .right-shape))
-
-  lowest : Best 1 (has-lower words) (length words - 1) (lowest-word words 1 (length words - 1))
-  lowest = range-best (by-lower words) some
-
-  highest : Best 1 (has-higher words) (length words - 1) (highest-word words 1 (length words - 1))
-  highest = range-best (by-higher words) some
+  some : 3 ≤ length words
+  some = omega (arith, S .valid-shape .count, some-blocks (S .valid-shape))
 
   -- it answers 0 and place 0
   pub returns-0 : job-returned (range-job words) ≡ accept
@@ -59,25 +56,29 @@ module _ (words : List ℕ) (h : Accepts (range-job words)) where
   given : job-left (range-job words) ≡ range-job words .result
   given = accepted-leaves (range-job words) h
 
+  attained : {before : ℤ → ℤ → Bool} → Order before → Attained words (coefficient-float (extreme before words 1 (length words - 3)))
+  attained O =
+      picked-has O (value-at words) (λ z. Attained words (coefficient-float z)) 1 (length words - 3)
+      (λ j l m. record { index = j; behind-head = l; before-end = omega (arith, some); has = refl })
+
   -- both floats are those of words between the head and the end word
 
-  pub lowest-attained : (1 ≤ lowest-word words 1 (length words - 1)) × (suc (lowest-word words 1 (length words - 1)) < length words)
-      × (job-left (range-job words) .lowest ≡ float-at words (lowest-word words 1 (length words - 1)))
-  lowest-attained = let l = lowest .below in (lowest .from, omega arith, ap (λ (r : Range). r .lowest) given)
+  pub lowest-attained : Attained words (job-left (range-job words) .lowest)
+  lowest-attained = rw given (attained by-lower)
 
-  pub highest-attained : (1 ≤ highest-word words 1 (length words - 1)) × (suc (highest-word words 1 (length words - 1)) < length words)
-      × (job-left (range-job words) .highest ≡ float-at words (highest-word words 1 (length words - 1)))
-  highest-attained = let l = highest .below in (highest .from, omega arith, ap (λ (r : Range). r .highest) given)
+  pub highest-attained : Attained words (job-left (range-job words) .highest)
+  highest-attained = rw given (attained by-higher)
 
   -- and the float of each lies between them
   pub between : (i : ℕ) → 1 ≤ i → suc i < length words → T (le (job-left (range-job words) .lowest) (float-at words i)) × T (le (float-at words i) (job-left (range-job words) .highest))
   between i l m =
-      let (a, b, low) = lowest-attained in
-      let (c, d, high) = highest-attained in
-      let z = value-at words i in
-      let here = in-digits S i l m in (
-        rw low (in-order-at-most 3 (value-at words (lowest-word words 1 (length words - 1))) z (lit≤ tt) (in-digits S _ a b) here (lowest .none-before i l (omega arith))),
-        rw high (in-order-at-most 3 z (value-at words (highest-word words 1 (length words - 1))) (lit≤ tt) here (in-digits S _ c d) (highest .none-before i l (omega arith))),
+      let n = length words - 3 in
+      let f = value-at words in
+      let few : suc (1 + n) < length words = omega (arith, some) in
+      let here = in-digits S i l m in
+      rw given (
+        in-order-at-most 3 _ (f i) (lit≤ tt) (extreme-digits S by-lower 1 n (lit≤ tt) few) here (picked-first by-lower f 1 n i l (omega arith)),
+        in-order-at-most 3 (f i) _ (lit≤ tt) here (extreme-digits S by-higher 1 n (lit≤ tt) few) (picked-first by-higher f 1 n i l (omega arith)),
       )
 
   -- exactly
@@ -92,8 +93,8 @@ module _ (K : Scratch) (words : List ℕ) (b : ℕ) (scratch : List ℤ) (output
   checked : Checked K words b (length scratch) (length output)
   checked = accepted-checked K words b scratch output a
 
-  shape : RightShape sample-format words
-  shape = checked .right .right-shape
+  shape : ValidShape sample-format words
+  shape = checked .right .valid-shape
 
   head : (kind (word-at written 0) ≡ coefficient-head-kind) × (across (word-at written 0) ≡ across (word-at words 0)) × (down (word-at written 0) ≡ down (word-at words 0))
   head = rw (same 0 (shape .some-words)) (sheets.head-left K words b scratch output a)
@@ -129,9 +130,9 @@ module _ (K : Scratch) (words : List ℕ) (b : ℕ) (scratch : List ℤ) (output
   end =
       ap (λ n. word-at written (n - 1)) size ∙ same (length words - 1) (let h = shape .some-words in omega arith) ∙ sheets.end-left K words b scratch output a
 
-  pub written-right : RightSheet coefficient-format written
+  pub written-right : ValidSheet coefficient-format written
   written-right = record {
-    right-shape = record {
+    valid-shape = record {
       some-words = rw size (shape .some-words);
       head-kind = head .0;
       some-across = rw (head .1) (shape .some-across);

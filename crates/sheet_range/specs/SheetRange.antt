@@ -1,44 +1,41 @@
 -- The job `sheet_range` (02, request 4), for any words.
-use mathlib.Core.Bool.{Bool}
-use mathlib.Core.List.{List}
-use Prim.Native.Nat.{ℕ, _-_}
+use Rattle.integers.specs.Kit.{cond, List, ℕ, zero, suc, _+_, _-_, ℤ, length}
 use lib.Ieee.{Float}
-use lib.ListN.{length}
 use lib.Signed.{ltZ}
-use Rattle.integers.specs.Search.{foremost}
 use Rattle.answers.specs.Answer.{accept}
 use Rattle.answers.specs.Job.{Job}
 use Rattle.floats.specs.Fraction.{coefficient-float, plus-zero}
 use Rattle.sheet_range.specs.declared.Range.{Range}
 use Rattle.sheet_checks.specs.Check.{coefficient-format, check-causes, value-at}
 
--- the float of word i's coefficient
-abbrev pub float-at : List ℕ → ℕ → Float
-float-at words i = coefficient-float (value-at words i)
+-- the lower of two, and the higher
 
--- word j has a lower value than word i, and a higher one
+abbrev pub lower : ℤ → ℤ → ℤ
+lower y z = cond (ltZ z y) z y
 
-abbrev pub has-lower : List ℕ → ℕ → ℕ → Bool
-has-lower words j i = ltZ (value-at words j) (value-at words i)
+abbrev pub higher : ℤ → ℤ → ℤ
+higher y z = cond (ltZ y z) z y
 
-abbrev pub has-higher : List ℕ → ℕ → ℕ → Bool
-has-higher words j i = ltZ (value-at words i) (value-at words j)
+-- the left fold of `pick`, which gives one of two, over the n + 1 numbers f a, ..., f (a + n)
+unfoldable pub picked : (ℤ → ℤ → ℤ) → (ℕ → ℤ) → ℕ → ℕ → ℤ
+picked pick f a zero = f a
+picked pick f a (suc n) = pick (picked pick f a n) (f (a + suc n))
 
--- of the words from index a on and before index b, the first that none has a lower value than, and the first that none has a higher value than
+-- the least and the greatest of f a, ..., f (a + n)
 
-abbrev pub lowest-word : List ℕ → ℕ → ℕ → ℕ
-lowest-word words a b = foremost a b (has-lower words)
+abbrev pub least : (ℕ → ℤ) → ℕ → ℕ → ℤ
+least = picked lower
 
-abbrev pub highest-word : List ℕ → ℕ → ℕ → ℕ
-highest-word words a b = foremost a b (has-higher words)
+abbrev pub greatest : (ℕ → ℤ) → ℕ → ℕ → ℤ
+greatest = picked higher
 
--- "the lowest and highest float", over the words between the head and the end word
+-- "the lowest and highest float": of the words 1 to length - 2, between the head and the end word
 
 abbrev pub lowest-float : List ℕ → Float
-lowest-float words = float-at words (lowest-word words 1 (length words - 1))
+lowest-float words = coefficient-float (least (value-at words) 1 (length words - 3))
 
 abbrev pub highest-float : List ℕ → Float
-highest-float words = float-at words (highest-word words 1 (length words - 1))
+highest-float words = coefficient-float (greatest (value-at words) 1 (length words - 3))
 
 -- "A coefficient sheet is checked as 01 checks a sample sheet"; it gives both as one pair, and of a refused call "plus zero"
 abbrev pub range-job : List ℕ → Job Range

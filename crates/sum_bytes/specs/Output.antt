@@ -1,7 +1,5 @@
 -- What `sum_sheet` writes for the bytes that it reads (02, request 5): a line with both sums, or the line of a refusal.
-use mathlib.Core.List.{List, [], _∷_, _++_}
-use Prim.Native.Nat.{ℕ}
-use lib.IntN.{ℤ}
+use Rattle.integers.specs.Kit.{List, [], _∷_, _++_, ℕ, ℤ}
 use Rattle.text.specs.Decimal.{signed-decimal}
 use Rattle.sheet_blocks.specs.Sums.{firsts-total, samples-total}
 use Rattle.sheet_bytes.specs.Program.{program-bytes, program-width}

@@ -1,20 +1,14 @@
 -- The digits that `io::decimal` makes of a number are those of the definition, and a number of 64 bits has at most 20; and the sign.
--- Assumes nothing.
-use mathlib.Core.Path.{_≡_, refl, sym, ap, subst}
-use mathlib.Core.Bool.{Bool, true, false}
-use mathlib.Core.List.{[], _∷_, _++_}
-use Prim.Native.Nat.{ℕ, zero, suc, _-_, _^_, _≤_, _<_}
+use Rattle.integers.specs.Kit.{_≡_, refl, sym, ap, subst, Bool, true, false, [], _∷_, _++_, ℕ, zero, suc, _-_, _^_, _≤_, _<_, T, ltb, ℤ, pos, negsuc, natAbs}
 use native.Mathlib.Nat.{le-trans, not-suc-le-zero, pow-le-pow-right, pow-suc}
 use native.Mathlib.Decide.{decLt}
 use native.Mathlib.Numerals.{sub-one}
 use native.Mathlib.Omega.{arith}
-use lib.Dec.{T, ltb}
-use lib.IntN.{ℤ, pos, negsuc, natAbs}
 use lib.Signed.{ltZ}
 use borrow.Author.Tests.{lt-ltb, le-ltb, ltb-true, ltb-false}
 use Rattle.io.specs.Digits.{digits, Fewest}
 use Rattle.integers.specs.Search.{first}
-use Rattle.integers.proofs.Search.{passed-none, first-at, first-none, before-first, at-first}
+use Rattle.integers.proofs.Search.{none-below-0, first-at, first-none, before-first, at-first}
 use Rattle.text.specs.Decimal.{decimal, minus, signed-decimal}
 
 -- k + 1 digits hold n
@@ -43,8 +37,8 @@ unfolding enough
 at-fewest n zero F = go n F
   where
     go : (n : ℕ) → Fewest 10 1 n 1 → first n (λ k. ltb n (10 ^ suc k)) ≡ 0
-    go zero F = first-none zero (λ k. ltb zero (10 ^ suc k)) passed-none
-    go (suc n) F = first-at (suc n) (λ k. ltb (suc n) (10 ^ suc k)) zero (omega arith) passed-none (lt-ltb (suc n) (10 ^ 1) (F .1))
+    go zero F = first-none zero (λ k. ltb zero (10 ^ suc k)) none-below-0
+    go (suc n) F = first-at (suc n) (λ k. ltb (suc n) (10 ^ suc k)) zero (omega arith) none-below-0 (lt-ltb (suc n) (10 ^ 1) (F .1))
 at-fewest n (suc k) F =
     let high : 10 ^ suc k ≤ n = least n (suc k) F (suc k) (omega arith) (omega arith) in
     let below : suc k < n = omega (arith, less-power (suc k)) in

@@ -1,11 +1,6 @@
 -- Whole numbers in decimal, as text in ASCII (01, "Sheets"; 02, request 5). First what the text of a number is, for the theorems: `decimal-text` and
 -- `signed-text` say that the definitions after it give it, and `only-decimal` and `only-signed` that no other text is one.
-use mathlib.Core.Path.{_≡_}
-use mathlib.Core.List.{List, [], _∷_}
-use Prim.Native.Nat.{ℕ, suc, _+_, _-_, _*_, _^_, _≤_, _<_}
-use lib.Dec.{ltb}
-use lib.IntN.{ℤ, pos, negsuc}
-use lib.ListN.{length, getD}
+use Rattle.integers.specs.Kit.{_≡_, List, [], _∷_, ℕ, suc, _+_, _-_, _*_, _^_, _≤_, _<_, ltb, ℤ, pos, negsuc, length, getD}
 use Rattle.io.specs.Digits.{digits}
 use Rattle.integers.specs.Search.{first}
 

@@ -1,12 +1,9 @@
--- A line that is written part after part, at the start of a buffer.
-use mathlib.Core.Path.{_≡_}
-use mathlib.Core.List.{List, _++_}
-use Prim.Native.Nat.{ℕ, _+_}
-use lib.ListN.{length}
-use Rattle.integers.specs.Table.{over}
+-- A line that is written part after part into a buffer.
+use Rattle.integers.specs.Kit.{_≡_, List, ℕ, _+_, _≤_, length}
+use Rattle.integers.specs.Table.{over-at}
 
--- `part` was written from index `at` on and ends at r: if p, which ends at `at`, was written over the start of l before, p ++ part is now
+-- `part` was written into the buffer from index `at` on, where it has room, and ends at r: before it and behind it the buffer is as it was
 pub record Appended (part : List ℕ) (at : ℕ) (before after : List ℕ) (r : ℕ) : Type 0 where
+  pub room : at + length part ≤ length before
   pub end : r ≡ at + length part
-  pub size : length after ≡ length before
-  pub more : (p l : List ℕ) → length p ≡ at → length before ≡ length l → before ≡ over p l → after ≡ over (p ++ part) l
+  pub stored : after ≡ over-at at part before

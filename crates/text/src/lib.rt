@@ -1,11 +1,9 @@
-// Text that is written part after part at the start of a buffer: fixed bytes, and whole numbers in decimal (01, "Sheets"; 02, request 5).
-ghost use mathlib.Core.Path.{_≡_};
-ghost use Prim.Native.Nat.{_+_, _≤_};
-ghost use lib.IntN.{natAbs};
-ghost use lib.ListN.{length};
+// Text that is written part after part into a buffer: fixed bytes, and whole numbers in decimal (01, "Sheets"; 02, request 5).
+ghost use Rattle.integers.specs.Kit.{_≡_, _+_, _≤_, length};
 ghost use Rattle.integers.specs.Table.{over};
 ghost use Rattle.text.specs.Decimal.{decimal, signed-decimal};
 ghost use Rattle.text.specs.Parts.{Appended};
+use integers::wide_magnitude;
 
 // A text, written over the start of `output`.
 fn copy(text: &[u8], output: &mut [u8])
@@ -39,23 +37,13 @@ pub fn put_decimal(n: u64, output: &mut [u8], at: usize) -> usize
     put(&text[..k], output, at)
 }
 
-// The magnitude of x. That of -2^63 is 2^63, which no i64 holds.
-fn magnitude(x: i64) -> u64
-    ensures { λ r. ⌜ r ≡ natAbs x ⌝ }
-{
-    if x < 0 {
-        return (-1 - x) as u64 + 1;
-    }
-    x as u64
-}
-
 // A number in decimal with a minus sign below zero, written from index `at` on, and where it ends.
 pub fn put_signed(n: i64, output: &mut [u8], at: usize) -> usize
     requires { ⌜ at + 21 ≤ length (now output) ⌝ }
     ensures { λ r. ⌜ Appended (signed-decimal n) at (now (output .entry)) (now (output .exit)) r ⌝ }
     ensures { λ r. ⌜ r ≤ at + 21 ⌝ }
 {
-    let digits = magnitude(n);
+    let digits = wide_magnitude(n);
     if n < 0 {
         let after = put(b"-", output, at);
         return put_decimal(digits, output, after);

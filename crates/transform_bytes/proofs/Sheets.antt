@@ -1,10 +1,6 @@
 -- The bytes of a coefficient sheet that was written.
--- Assumes nothing.
-use mathlib.Core.Path.{_≡_, sym, ap, _∙_}
-use mathlib.Core.List.{List}
-use Prim.Native.Nat.{ℕ, _*_, _/_, _%_, _≤_}
+use Rattle.integers.specs.Kit.{_≡_, sym, ap, _∙_, List, ℕ, _*_, _/_, _%_, _≤_, length, take}
 use native.Mathlib.Omega.{arith}
-use lib.ListN.{length, take}
 use Rattle.integers.specs.Table.{over}
 use Rattle.integers.proofs.Overwriting.{length-over, take-over}
 use Rattle.integers.proofs.Tables.{length-table}

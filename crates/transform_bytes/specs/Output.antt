@@ -1,7 +1,5 @@
 -- What `transform_sheet` writes for the bytes that it reads (01, "Sheets"): the bytes of the coefficient sheet, or the line of a refusal.
-use mathlib.Core.List.{List}
-use Prim.Native.Nat.{ℕ, _-_, _*_, _/_, _%_, _^_}
-use lib.ListN.{length}
+use Rattle.integers.specs.Kit.{List, ℕ, _-_, _*_, _/_, _%_, _^_, length}
 use Rattle.integers.specs.Table.{table}
 use Rattle.sheet_checks.specs.Check.{word-at}
 use Rattle.sheet_blocks.specs.Blocks.{coefficient-sheet}

@@ -2,9 +2,7 @@
 //
 // `convert` takes any bytes and looks at the first 32,780 of them, which is what the program reads. It is proved whole, the decimals of the
 // refusal included; the program only reads, calls it and writes.
-ghost use mathlib.Core.Path.{_≡_};
-ghost use Prim.Native.Nat.{_*_, _≤_, _<_};
-ghost use lib.ListN.{length, take};
+ghost use Rattle.integers.specs.Kit.{_≡_, _*_, _≤_, _<_, length, take};
 ghost use Rattle.io.specs.Counts.{Counts};
 ghost use Rattle.integers.specs.Table.{over};
 ghost use Rattle.sheet_bytes.specs.Program.{input-limit};

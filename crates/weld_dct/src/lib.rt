@@ -5,25 +5,25 @@
 // it returns and what every buffer holds afterwards: the whole result, or one refusal with its place, and then each buffer is as it was, both sums that
 // are returned 0 and every float plus zero. A buffer that is lent to be read is as it was. It keeps nothing between calls. What a caller in another
 // language has to see to, because no function can look at it, the header says.
-ghost use mathlib.Core.Path.{_≡_};
-ghost use lib.Dec.{T};
+ghost use Rattle.integers.specs.Kit.{_≡_, T};
 ghost use Rattle.answers.specs.Answer.{accepted, returned};
 ghost use Rattle.answers.specs.Job.{job-left, job-returned};
-ghost use Rattle.block_floats.specs.Summary.{summarized, summary-job};
-ghost use Rattle.block_floats.specs.ToFloats.{to-floats-job};
-ghost use Rattle.inverse.specs.Back.{back-job};
-ghost use Rattle.quantization.specs.Quantization.{dequantize-job, quantize-job};
-ghost use Rattle.reorientation.specs.Reorient.{compose-job, reorient-job};
-ghost use Rattle.rounding.specs.Rounding.{AllNear, round-job};
+ghost use Rattle.summary.specs.Summary.{summary-job};
+ghost use Rattle.to_floats.specs.ToFloats.{to-floats-job};
+ghost use Rattle.back.specs.Back.{back-job};
+ghost use Rattle.dequantize.specs.Dequantize.{dequantize-job};
+ghost use Rattle.quantize.specs.Quantize.{quantize-job};
+ghost use Rattle.reorient.specs.Reorient.{compose-job, reorient-job};
+ghost use Rattle.coefficients.specs.Coefficients.{AllNear};
+ghost use Rattle.round.specs.Round.{round-job};
 ghost use Rattle.sheet_blocks.specs.Blocks.{element-scratch};
 ghost use Rattle.sheet_range.specs.SheetRange.{range-job};
-ghost use Rattle.sheets.specs.Sheet.{sheet-job};
-ghost use Rattle.transform.specs.Forward.{forward-job};
-ghost use Rattle.weld_dct.specs.Returned.{number-and-place, summary-record};
+ghost use Rattle.sheet.specs.Sheet.{sheet-job};
+ghost use Rattle.forward.specs.Forward.{forward-job};
+ghost use Rattle.weld_dct.specs.Returned.{given-by, number-and-place};
 use answers::Answer;
 use answers::number;
 use answers::place;
-use block_floats::BlockSummary;
 
 // What the functions return, three of them with sums or floats beside it: 0 for an accepted call, and the number of the refusal otherwise; and the
 // place.
@@ -34,7 +34,7 @@ pub struct Returned {
 }
 
 // The papers' number and place of an answer.
-fn told(a: Answer) -> Returned
+fn numbered(a: Answer) -> Returned
     ensures { λ r. ⌜ number-and-place r ≡ returned a ⌝ }
 {
     Returned {
@@ -50,7 +50,7 @@ pub extern "C" fn weld_dct_forward(samples: &[i32], elements: &mut [i32]) -> Ret
     ensures { λ r. ⌜ now (elements .exit) ≡ job-left (forward-job 2 (now (samples .entry)) (now (elements .entry))) ⌝ }
     ensures { λ r. ⌜ now (samples .exit) ≡ now (samples .entry) ⌝ }
 {
-    told(transform::forward(samples, elements))
+    numbered(forward::forward(samples, elements))
 }
 
 // The block that has these elements.
@@ -60,7 +60,7 @@ pub extern "C" fn weld_dct_back(elements: &[i32], samples: &mut [i32]) -> Return
     ensures { λ r. ⌜ now (samples .exit) ≡ job-left (back-job 2 (now (elements .entry)) (now (samples .entry))) ⌝ }
     ensures { λ r. ⌜ now (elements .exit) ≡ now (elements .entry) ⌝ }
 {
-    told(inverse::back(elements, samples))
+    numbered(back::back(elements, samples))
 }
 
 // The coefficients of 64 elements at the width b.
@@ -71,7 +71,7 @@ pub extern "C" fn weld_dct_round(elements: &[i32], b: u32, coefficients: &mut [i
     ensures { λ r. ⌜ (T (accepted (number-and-place r)) → AllNear 2 (now (elements .entry)) b (now (coefficients .exit))) ⌝ }
     ensures { λ r. ⌜ now (elements .exit) ≡ now (elements .entry) ⌝ }
 {
-    told(rounding::round(elements, b, coefficients))
+    numbered(round::round(elements, b, coefficients))
 }
 
 // What weld_dct_sheet returns: the number and place, which lie as if they were fields of its own, and both sums.
@@ -97,10 +97,10 @@ pub extern "C" fn weld_dct_sheet(
     ensures { λ r. ⌜ now (output .exit) ≡ job-left (sheet-job element-scratch (now (words .entry)) b (now (scratch .entry)) (now (output .entry))) .output ⌝ }
     ensures { λ r. ⌜ now (words .exit) ≡ now (words .entry) ⌝ }
 {
-    let answered = sheets::sheet(words, b, scratch, output);
+    let answered = sheet::sheet(words, b, scratch, output);
     let answer = answered.answer;
     SheetReturned {
-        returned: told(answer),
+        returned: numbered(answer),
         samples: answered.totals.samples,
         firsts: answered.totals.firsts,
     }
@@ -117,15 +117,15 @@ pub extern "C" fn weld_dct_reorient(
     ensures { λ r. ⌜ now (output .exit) ≡ job-left (reorient-job (now (elements .entry)) orientation (now (output .entry))) ⌝ }
     ensures { λ r. ⌜ now (elements .exit) ≡ now (elements .entry) ⌝ }
 {
-    told(reorientation::reorient(elements, orientation, output))
+    numbered(reorient::reorient(elements, orientation, output))
 }
 
-// The orientation that two, one after the other, are.
+// The orientation that `second` after `first` is, returned as the place.
 #[no_mangle]
 pub extern "C" fn weld_dct_compose_orientations(first: u32, second: u32) -> Returned
     ensures { λ r. ⌜ number-and-place r ≡ job-returned (compose-job first second) ⌝ }
 {
-    told(reorientation::compose_orientations(first, second))
+    numbered(reorient::compose_orientations(first, second))
 }
 
 // The quantized values of 64 coefficients.
@@ -140,7 +140,7 @@ pub extern "C" fn weld_dct_quantize(
     ensures { λ r. ⌜ now (coefficients .exit) ≡ now (coefficients .entry) ⌝ }
     ensures { λ r. ⌜ now (steps .exit) ≡ now (steps .entry) ⌝ }
 {
-    told(quantization::quantize(coefficients, steps, quantized))
+    numbered(quantize::quantize(coefficients, steps, quantized))
 }
 
 // The coefficients that 64 quantized values stand for.
@@ -155,7 +155,7 @@ pub extern "C" fn weld_dct_dequantize(
     ensures { λ r. ⌜ now (quantized .exit) ≡ now (quantized .entry) ⌝ }
     ensures { λ r. ⌜ now (steps .exit) ≡ now (steps .entry) ⌝ }
 {
-    told(quantization::dequantize(quantized, steps, coefficients))
+    numbered(dequantize::dequantize(quantized, steps, coefficients))
 }
 
 // 64 coefficients as floats.
@@ -165,7 +165,7 @@ pub extern "C" fn weld_dct_to_floats(coefficients: &[i32], floats: &mut [f32]) -
     ensures { λ r. ⌜ now (floats .exit) ≡ job-left (to-floats-job (now (coefficients .entry)) (now (floats .entry))) ⌝ }
     ensures { λ r. ⌜ now (coefficients .exit) ≡ now (coefficients .entry) ⌝ }
 {
-    told(block_floats::to_floats(coefficients, floats))
+    numbered(to_floats::to_floats(coefficients, floats))
 }
 
 // What weld_dct_summary returns: the number and place, likewise, 1 for a textured block, and the floats.
@@ -177,26 +177,22 @@ pub struct SummaryReturned {
     largest: f32,
 }
 
-// The papers' number and place of a summary, and what stands beside them.
-fn told_summary(s: BlockSummary) -> SummaryReturned
-    ensures { λ r. ⌜ summary-record r ≡ summarized s ⌝ }
-{
-    SummaryReturned {
-        returned: told(block_floats::answer(s)),
-        textured: block_floats::textured(s),
-        mean: block_floats::mean(s),
-        largest: block_floats::largest(s),
-    }
-}
-
 // A block in its mean grey and its largest other coefficient.
 #[no_mangle]
 pub extern "C" fn weld_dct_summary(coefficients: &[i32]) -> SummaryReturned
-    ensures { λ r. ⌜ summary-record r .answer ≡ job-returned (summary-job (now (coefficients .entry))) ⌝ }
-    ensures { λ r. ⌜ summary-record r .given ≡ job-left (summary-job (now (coefficients .entry))) ⌝ }
+    ensures { λ r. ⌜ number-and-place (r .returned) ≡ job-returned (summary-job (now (coefficients .entry))) ⌝ }
+    ensures { λ r. ⌜ given-by r ≡ job-left (summary-job (now (coefficients .entry))) ⌝ }
     ensures { λ r. ⌜ now (coefficients .exit) ≡ now (coefficients .entry) ⌝ }
 {
-    told_summary(block_floats::summary(coefficients))
+    let summary = summary::summary(coefficients);
+    let answer = summary.answer;
+    let grey = summary.grey;
+    SummaryReturned {
+        returned: numbered(answer),
+        textured: summary::textured(grey),
+        mean: summary::mean(grey),
+        largest: summary::largest(grey),
+    }
 }
 
 // What weld_dct_sheet_range returns: the number and place, likewise, and the floats.
@@ -218,7 +214,7 @@ pub extern "C" fn weld_dct_sheet_range(words: &[u32]) -> RangeReturned
     let ranged = sheet_range::sheet_range(words);
     let answer = ranged.answer;
     RangeReturned {
-        returned: told(answer),
+        returned: numbered(answer),
         lowest: ranged.range.lowest,
         highest: ranged.range.highest,
     }

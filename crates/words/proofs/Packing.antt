@@ -1,14 +1,10 @@
 -- Packing and unpacking are inverse, on the ranges of kinds, payloads, values and sizes.
--- Assumes nothing.
-use mathlib.Core.Path.{_≡_, refl, sym, ap, subst, _∙_}
-use mathlib.Core.Bool.{true, false}
-use Prim.Native.Nat.{ℕ, suc, _+_, _-_, _*_, _%_, _^_, _≤_, _<_, zero-le}
+use Rattle.integers.specs.Kit.{_≡_, refl, sym, ap, _∙_, true, false, ℕ, suc, _+_, _-_, _*_, _%_, _^_, _≤_, _<_, lit<, ℤ, pos, negsuc, _+ℤ_, _-ℤ_, negℤ, natAbs}
+use Prim.Native.Nat.{zero-le}
 use native.Mathlib.Decide.{decLt}
 use native.Mathlib.Nat.{not-suc-le-zero, lt-of-le-of-lt}
 use native.Mathlib.Omega.{arith}
-use lib.Dec.{T, lit<}
-use lib.IntN.{ℤ, pos, negsuc, _+ℤ_, _-ℤ_, negℤ, natAbs}
-use lib.Signed.{ltZ, mag, nonNeg, natAbs-le}
+use lib.Signed.{ltZ, mag, natAbs-le}
 use borrow.Author.Tests.{lt-ltb, le-ltb, ltb-true}
 use Rattle.integers.specs.Range.{outside}
 use Rattle.integers.proofs.Ranges.{inside-mag, mag-inside}
@@ -107,10 +103,6 @@ pub negative-plus : (z : ℤ) (n : ℕ) → ltZ z (pos 0) ≡ true → natAbs z 
 negative-plus (pos m) n e h = absurd (not-suc-le-zero (ltb-true m 0 e))
 negative-plus (negsuc m) n e h = rw (le-ltb n (suc m) h) refl
 
-pub not-negative : (z : ℤ) → ltZ z (pos 0) ≡ false → T (nonNeg z)
-not-negative (pos m) e = tt
-not-negative (negsuc m) e = subst T e tt
-
 in-range-mag : (z : ℤ) → InRange z → mag z < value-limit
 in-range-mag z r = lt-of-le-of-lt (inside-mag (value-limit - 1) z r) (lit< tt)
 
@@ -131,7 +123,7 @@ payload-of-value p l = go (decLt p value-limit)
     go (yes h) = rw (value-low p h) (payload-of-pos p)
     go (no h) = rw (value-negsuc p (omega arith) l) (payload-of-negsuc (payloads - suc p) ∙ omega arith)
 
--- any payload: a format whose range is this one refuses none
+-- the value of any payload is in this range
 pub value-in-range : (p : ℕ) → p < payloads → InRange (value p)
 value-in-range p l = go (decLt p value-limit)
   where

@@ -1,8 +1,5 @@
 -- Words of a sheet (01, "Sheets"): "a word has 32 bits, its top four bits the kind, the other 28 the payload".
-use mathlib.Core.Bool.{cond}
-use Prim.Native.Nat.{ℕ, _+_, _-_, _*_, _/_, _%_, _^_}
-use lib.Dec.{ltb}
-use lib.IntN.{ℤ, pos, _-ℤ_, natAbs}
+use Rattle.integers.specs.Kit.{cond, ℕ, _+_, _-_, _*_, _/_, _%_, _^_, ltb, ℤ, pos, _-ℤ_, natAbs}
 use lib.Signed.{ltZ}
 
 -- how many payloads there are
@@ -46,7 +43,7 @@ value-limit = 2 ^ 27
 unfoldable pub value : ℕ → ℤ
 value p = cond (ltb p value-limit) (pos p) (pos p -ℤ pos payloads)
 
--- the payload that stands for a value
+-- the payload that stands for a value from -2^27 to 2^27 - 1
 unfoldable pub payload-of : ℤ → ℕ
 payload-of z = cond (ltZ z (pos 0)) (payloads - natAbs z) (natAbs z)
 

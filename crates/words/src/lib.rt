@@ -1,7 +1,5 @@
 // Words of a sheet (01, "Sheets"): 32 bits, of which the top four are the kind and the others the payload.
-ghost use mathlib.Core.Path.{_≡_};
-ghost use Prim.Native.Nat.{_*_, _<_};
-ghost use lib.IntN.{natAbs};
+ghost use Rattle.integers.specs.Kit.{_≡_, _*_, _<_, natAbs};
 ghost use Rattle.words.specs.Word as words;
 
 // 01's table of kinds.

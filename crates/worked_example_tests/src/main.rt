@@ -1,14 +1,14 @@
 // Runs 01's examples, as changed by 02, through forward, back, rounding and the sheet job, and some more calls of their kind, and prints what each
 // returns and leaves; the file stdout has what the papers say, or what follows from their rules. A line has the number and the place that the call
 // returns, of a sheet both sums, and then some numbers of its buffers, which held 7 before; words are in hexadecimal.
-ghost use Prim.Native.Nat.{_<_};
+ghost use Rattle.integers.specs.Kit.{_<_};
 use answers::Answer;
-use inverse::back;
-use rounding::round;
-use sheets::SheetAnswer;
-use sheets::sheet;
+use back::back;
+use forward::forward;
+use round::round;
+use sheet::SheetAnswer;
+use sheet::sheet;
 use text::put_signed;
-use transform::forward;
 
 fn print(n: i32, after: u8) {
     if n < 0 {

@@ -1,20 +1,15 @@
 -- A block whose samples are all the same: at most one of its elements is not 0.
--- Assumes nothing.
-use mathlib.Core.Path.{_≡_, sym, ap, _∙_}
-use mathlib.Core.Bool.{Bool, cond}
-use mathlib.Core.List.{List, []}
-use Prim.Native.Nat.{ℕ, _+_, _*_, _/_, _%_, _<_}
+use Rattle.integers.specs.Kit.{_≡_, sym, ap, _∙_, Bool, cond, List, [], ℕ, _+_, _*_, _/_, _%_, _<_, T, eqb, ℤ, pos, _*ℤ_}
 use native.Mathlib.Decide.{ℕ-discrete}
 use native.Mathlib.Omega.{arith}
-use lib.Dec.{T, eqb}
-use lib.IntN.{ℤ, pos, _*ℤ_, *ℤ-zero}
+use lib.IntN.{*ℤ-zero}
 use borrow.Author.Tests.{eq-eqb, ne-eqb}
 use Rattle.integers.specs.Sum.{sum}
 use Rattle.integers.specs.Table.{table}
-use Rattle.integers.specs.Test.{eqList}
+use Rattle.integers.specs.Test.{eqList, every₂}
 use Rattle.integers.proofs.Sums.{sum-cong}
 use Rattle.integers.proofs.Tables.{getD-table, length-table, is-table}
-use Rattle.integers.proofs.Tests.{every₂, every₂-at, eqList→≡}
+use Rattle.integers.proofs.Tests.{every₂-at, eqList→≡}
 use Rattle.ring.specs.Element.{component, add, scale, integer, cosine, basis-product, mul}
 use Rattle.ring.proofs.Linear.{linear-sum, linear-scale}
 use Rattle.ring.proofs.Product.{mul-left, mul-right}
@@ -23,7 +18,7 @@ use Rattle.limits.specs.Limits.{places, components-size}
 use Rattle.dct.specs.Transform.{factor, element, double-sum, double-sum-by}
 use Rattle.dct.proofs.Factors.{eight-factor}
 use Rattle.dct.proofs.Dimensions.{element-by-number, double-sum-cong}
-use Rattle.element_sets.specs.Sets.{sample, elements-by, elements-of}
+use Rattle.blocks.specs.Blocks.{sample, elements-by, elements-of}
 use Rattle.worked_examples.specs.Examples.{all, at-corner}
 
 -- the sum of the factors of a frequency

@@ -1,14 +1,12 @@
 -- The worked examples hold.
--- Assumes nothing.
-use mathlib.Core.Path.{refl}
-use lib.IntN.{pos, negsuc}
+use Rattle.integers.specs.Kit.{refl, pos, negℤ}
 use Rattle.integers.specs.Nearest.{half-up, half-away}
 use Rattle.integers.specs.Sum.{sum}
 use Rattle.ring.specs.Element.{cosine, basis-product, mul}
 use Rattle.dct.specs.Transform.{factor, factors-by, element-by}
 use Rattle.rounding_error.specs.Root.{root}
 use Rattle.rounding_error.specs.Width.{numerator, coefficient}
-use Rattle.rounding.specs.Tables.{table-numbers}
+use Rattle.coefficients.specs.Tables.{table-numbers}
 use Rattle.worked_examples.specs.Examples.{examples, Hold}
 use Rattle.worked_examples.proofs.Constant.{constant}
 
@@ -24,8 +22,8 @@ examples-hold =
     refl also refl also refl also refl
     also refl also refl
     also constant (pos 1) also refl also refl also refl
-    also constant (negsuc 2047) also constant (pos 2047) also refl also refl also refl also refl also refl also refl
-    also constant (negsuc 32767) also constant (pos 32767) also refl also refl also refl also refl also refl also refl
+    also constant (negℤ (pos 2048)) also constant (pos 2047) also refl also refl also refl also refl also refl also refl
+    also constant (negℤ (pos 32768)) also constant (pos 32767) also refl also refl also refl also refl also refl also refl
     also refl also refl also refl also refl
     also refl also refl also refl
     also refl also refl also refl

@@ -1,11 +1,6 @@
 -- The worked examples that 01 stars ("Films to try"), as changed by 02, and the ends of the range: what the definitions give, and what the papers say, or
 -- what follows from their rules.
-use mathlib.Core.Path.{_≡_}
-use mathlib.Core.Bool.{Bool, true, cond}
-use mathlib.Core.List.{List, [], _∷_}
-use Prim.Native.Nat.{ℕ, _+_, _*_}
-use lib.Dec.{eqb, lit<}
-use lib.IntN.{ℤ, pos, negsuc}
+use Rattle.integers.specs.Kit.{_≡_, Bool, true, cond, List, [], _∷_, ℕ, _+_, _*_, eqb, lit<, ℤ, pos, negℤ}
 use Rattle.integers.specs.Table.{table}
 use Rattle.ring.specs.Element.{add, subtract, integer, only, cosine, mul}
 use Rattle.limits.specs.Limits.{places, components-size, halvings}
@@ -13,8 +8,8 @@ use Rattle.dct.specs.Transform.{element}
 use Rattle.rounding_error.specs.Fraction.{Fraction}
 use Rattle.rounding_error.specs.Root.{root, below, above}
 use Rattle.rounding_error.specs.Width.{numerator, coefficient}
-use Rattle.element_sets.specs.Sets.{sample, elements-of}
-use Rattle.rounding.specs.Tables.{table-numbers}
+use Rattle.blocks.specs.Blocks.{sample, elements-of}
+use Rattle.coefficients.specs.Tables.{table-numbers}
 
 pub record Example : Type 0 where
   pub given : List ℤ
@@ -75,20 +70,20 @@ examples =
     ∷ (rounded 20 (at (all (pos 1)) 0 0) is alone (pos 64))
     ∷ (rounded 26 (at (all (pos 1)) 0 0) is alone (pos 64))
     -- all -2048: u_0 is -262,144, coefficient -131,072; all 2047: 262,016 and 131,008
-    ∷ (elements-of 2 (all (negsuc 2047)) is at-corner (negsuc 262143))
+    ∷ (elements-of 2 (all (negℤ (pos 2048))) is at-corner (negℤ (pos 262144)))
     ∷ (elements-of 2 (all (pos 2047)) is at-corner (pos 262016))
-    ∷ (rounded 11 (at (all (negsuc 2047)) 0 0) is alone (negsuc 131071))
-    ∷ (rounded 20 (at (all (negsuc 2047)) 0 0) is alone (negsuc 131071))
-    ∷ (rounded 26 (at (all (negsuc 2047)) 0 0) is alone (negsuc 131071))
+    ∷ (rounded 11 (at (all (negℤ (pos 2048))) 0 0) is alone (negℤ (pos 131072)))
+    ∷ (rounded 20 (at (all (negℤ (pos 2048))) 0 0) is alone (negℤ (pos 131072)))
+    ∷ (rounded 26 (at (all (negℤ (pos 2048))) 0 0) is alone (negℤ (pos 131072)))
     ∷ (rounded 11 (at (all (pos 2047)) 0 0) is alone (pos 131008))
     ∷ (rounded 20 (at (all (pos 2047)) 0 0) is alone (pos 131008))
     ∷ (rounded 26 (at (all (pos 2047)) 0 0) is alone (pos 131008))
     -- the ends of the range (02, request 6), all -32,768: u_0 is -4,194,304, coefficient -2,097,152; all 32,767: 4,194,176 and 2,097,088
-    ∷ (elements-of 2 (all (negsuc 32767)) is at-corner (negsuc 4194303))
+    ∷ (elements-of 2 (all (negℤ (pos 32768))) is at-corner (negℤ (pos 4194304)))
     ∷ (elements-of 2 (all (pos 32767)) is at-corner (pos 4194176))
-    ∷ (rounded 11 (at (all (negsuc 32767)) 0 0) is alone (negsuc 2097151))
-    ∷ (rounded 20 (at (all (negsuc 32767)) 0 0) is alone (negsuc 2097151))
-    ∷ (rounded 26 (at (all (negsuc 32767)) 0 0) is alone (negsuc 2097151))
+    ∷ (rounded 11 (at (all (negℤ (pos 32768))) 0 0) is alone (negℤ (pos 2097152)))
+    ∷ (rounded 20 (at (all (negℤ (pos 32768))) 0 0) is alone (negℤ (pos 2097152)))
+    ∷ (rounded 26 (at (all (negℤ (pos 32768))) 0 0) is alone (negℤ (pos 2097152)))
     ∷ (rounded 11 (at (all (pos 32767)) 0 0) is alone (pos 2097088))
     ∷ (rounded 20 (at (all (pos 32767)) 0 0) is alone (pos 2097088))
     ∷ (rounded 26 (at (all (pos 32767)) 0 0) is alone (pos 2097088))
@@ -104,7 +99,7 @@ examples =
     -- an element of u_2 = 256 alone, b = 11: N = 968,704, coefficient 237; with -256: -237 (02, request 3)
     ∷ (alone (numerator 11 (table-numbers 11) (only (pos 256) 2)) is alone (pos 968704))
     ∷ (rounded 11 (only (pos 256) 2) is alone (pos 237))
-    ∷ (rounded 11 (only (negsuc 255) 2) is alone (negsuc 236))
+    ∷ (rounded 11 (only (negℤ (pos 256)) 2) is alone (negℤ (pos 237)))
     ∷ []
 
 -- each gives what is said

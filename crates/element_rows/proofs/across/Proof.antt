@@ -1,6 +1,5 @@
 -- `across` meets its contract: one element of each row.
--- Assumes nothing.
-use mathlib.Core.Path.{refl}
+use Rattle.integers.specs.Kit.{refl}
 use native.Mathlib.Omega.{arith}
 use Rattle.element_rows.proofs.Rooms.{row-8}
 use Rattle.element_rows.proofs.across.Statement.{statement}

@@ -1,9 +1,7 @@
 -- `first_above` meets its contract: the loop passes each element within the limit.
--- Assumes nothing.
-use mathlib.Core.Path.{_≡_, sym, ap, _∙_}
-use Prim.Native.Nat.{_-_}
+use Rattle.integers.specs.Kit.{_≡_, sym, ap, _∙_, _-_}
 use native.Mathlib.Omega.{arith}
-use Rattle.integers.proofs.Search.{Passed, passed-none, passed-more, first-at, first-none}
+use Rattle.integers.proofs.Search.{NoneBelow, none-below-0, none-below-more, first-at, first-none}
 use Rattle.ring.specs.Element.{magnitudes}
 use Rattle.element_sets.specs.Sets.{above-limit}
 use Rattle.element_sets.proofs.Limit.{above-yes, above-no}
@@ -11,13 +9,13 @@ use Rattle.element_sets.proofs.first_above.Statement.{statement}
 use Rattle.element_sets.proofs.first_above.Tie as tie
 
 abbrev Inv-loop : tie.InvT-loop
-Inv-loop elements n limit p₀ p = Passed n (above-limit limit elements) p
+Inv-loop elements n limit p₀ p = NoneBelow n (above-limit limit elements) p
 
 abbrev μ-loop : tie.MeasureT-loop
 μ-loop elements n limit p₀ p = n - p
 
 loop-holds : tie.Need-loop-holds Inv-loop μ-loop
-loop-holds c = passed-none
+loop-holds c = none-below-0
 
 returns : tie.Need-returns Inv-loop μ-loop
 returns c =
@@ -33,7 +31,7 @@ loop-again c =
     let at = c .before .before .before .before in
     let args = at .before .args in
     let sum = c .before .magnitudes .ensures ∙ ap magnitudes (c .before .before .element-at .ensures) in
-    passed-more (c .before .before .before .loop-test .taken) (at .loop .inv)
+    none-below-more (c .before .before .before .loop-test .taken) (at .loop .inv)
     (above-no (args .limit) (args .elements .now) (at .loop .p) sum (omega arith))
 
 returns-2 : tie.Need-returns-2 Inv-loop μ-loop

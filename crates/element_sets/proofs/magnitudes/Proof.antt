@@ -1,11 +1,7 @@
 -- `magnitudes` meets its contract: the loop sums the magnitudes of the components passed.
--- Assumes nothing.
-use mathlib.Core.Path.{_≡_, refl, ap, _∙_}
-use Prim.Native.Nat.{ℕ, _-_, _*_, _^_, _≤_, _<_}
+use Rattle.integers.specs.Kit.{_≡_, refl, ap, _∙_, ℕ, _-_, _*_, _^_, _≤_, _<_, ℤ, natAbs, length}
 use native.Mathlib.Numerals.{add-one}
 use native.Mathlib.Omega.{arith}
-use lib.IntN.{ℤ, natAbs}
-use lib.ListN.{length}
 use lib.Signed.{mag, natAbs-le}
 use borrow.Author.Needs.{needs}
 use Rattle.integers.proofs.Signed.{in32, read-i32}

@@ -1,21 +1,17 @@
 -- `fours_step` meets its contract: one part.
--- Assumes nothing.
 use native.Mathlib.Omega.{arith}
-use lib.Dec.{lit<}
-use Rattle.dct.specs.Rows.{fours}
-use Rattle.element_steps.proofs.Sums.{even-place, odd-place, room-part, sum-one, all-parts}
+use borrow.Author.Needs.{needs}
+use Rattle.integers.specs.Sum.{sum}
+use Rattle.element_steps.proofs.Sums.{no-parts, part-more, joined-parts}
 use Rattle.element_steps.proofs.fours_step.Statement.{statement}
 use Rattle.element_steps.proofs.fours_step.Tie as tie
 
 returns : tie.Need-returns
+unfolding sum
 returns c =
-    let (R, C) = c .before .before .before .before .pre in
-    let a = c .before .before .before .parts .ensures in
-    c .join .ensures _ (all-parts R fours even-place 1 (λ j h. (omega arith, omega arith)) C (sum-one R fours even-place a (c .before .before .even-product .ensures)))
-    (all-parts R fours odd-place 1 (λ j h. (omega arith, omega arith)) C (sum-one R fours odd-place a (c .before .odd-product .ensures)))
+    let parts-made = c .before .before .before in
+    joined-parts (parts-made .before .pre .1) (part-more (parts-made .parts .ensures .0) no-parts) (λ j h. (omega arith, omega arith)) (c .join .ensures)
+    (c .before .before .even-product .ensures .0) (c .before .odd-product .ensures .0)
 
 pub fours-step-spec : {M : Type 1} → statement M
-fours-step-spec =
-    tie.close
-    (tie.spec (λ c κs. (c .pre .0, (lit< tt, lit< tt))) (λ c κs. (room-part (c .before .pre .0) 4 (c .parts .ensures), lit< tt))
-    (λ c κs. (room-part (c .before .before .pre .0) 4 (c .before .parts .ensures), lit< tt)) (λ c κs. tt) returns)
+fours-step-spec = tie.close (tie.spec (λ c κs. search needs) (λ c κs. search needs) (λ c κs. search needs) (λ c κs. search needs) returns)

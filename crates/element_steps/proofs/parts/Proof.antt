@@ -1,18 +1,14 @@
 -- `parts` meets its contract: the loop takes component k of each element.
--- Assumes nothing.
-use mathlib.Core.Path.{_≡_, ap, _∙_}
-use mathlib.Core.List.{[]}
-use Prim.Native.Nat.{_-_}
+use Rattle.integers.specs.Kit.{_≡_, ap, _∙_, [], _-_, lit≤}
 use native.Mathlib.Omega.{arith}
-use lib.Dec.{lit≤}
 use borrow.Author.Needs.{needs}
 use Rattle.integers.proofs.Tables.{Each, each-none, each-more}
 use Rattle.ring.specs.Element.{integer}
 use Rattle.ring.specs.Maps.{part}
 use Rattle.ring.proofs.Dots.{dot-cosine}
-use Rattle.elements.specs.Buffer.{item}
+use Rattle.elements.specs.Buffer.{Row, item}
 use Rattle.elements.proofs.Bounds.{within-le}
-use Rattle.element_rows.proofs.Rooms.{eights}
+use Rattle.element_rows.proofs.Rooms.{eights, small-part, row-room}
 use Rattle.element_steps.proofs.parts.Statement.{statement}
 use Rattle.element_steps.proofs.parts.Tie as tie
 
@@ -31,10 +27,14 @@ loop-again : tie.Need-loop-again Inv-loop μ-loop
 loop-again c =
     let start = c .before .before .before .before in
     let (room, (some, few)) = start .pre in
-    each-more (omega arith) (c .before .before .before .loop .inv) (c .along .ensures ∙ ap integer (dot-cosine (start .args .k) some few (eights (room .small (c .before .before .before .loop .n) (omega arith)))))
+    let e = eights (room .small (c .before .before .before .loop .n) (omega arith)) in
+    each-more (omega arith) (c .before .before .before .loop .inv) (c .along .ensures ∙ ap integer (dot-cosine (start .args .k) some few e))
 
 returns : tie.Need-returns Inv-loop μ-loop
-returns c = record { at = λ n h. c .before .loop .inv .done n (omega arith) }
+returns c =
+    let start = c .before .before in
+    let P : Row 8 (λ n. part (item (start .args .t1) n) (start .args .k)) (c .before .loop .r) = record { at = λ n h. c .before .loop .inv .done n (omega arith) } in
+    (P, row-room P (λ n h. small-part (start .args .k) (start .pre .0 .small n h)))
 
 pub parts-spec : {M : Type 1} → statement M
 parts-spec =

@@ -1,39 +1,27 @@
 -- `twos_step` meets its contract: two parts.
--- Assumes nothing.
 use native.Mathlib.Omega.{arith}
-use lib.Dec.{lit<}
-use Rattle.dct.specs.Rows.{twos}
-use Rattle.element_steps.proofs.Sums.{even-place, odd-place, room-part, room-product, room-sum, sum-one, sum-more, all-parts}
+use Rattle.integers.specs.Kit.{lit≤}
+use borrow.Author.Needs.{needs}
+use Rattle.integers.specs.Sum.{sum}
+use Rattle.element_rows.proofs.Rooms.{room-le}
+use Rattle.element_steps.proofs.Sums.{sum-two, no-parts, part-more, joined-parts}
 use Rattle.element_steps.proofs.twos_step.Statement.{statement}
 use Rattle.element_steps.proofs.twos_step.Tie as tie
 
-add-halves-requires : tie.Need-add-halves-requires
-add-halves-requires c κs =
-    let R = c .before .before .before .before .pre .0 in (
-      room-sum R twos even-place 0 (lit< tt) (sum-one R twos even-place (c .before .before .before .parts .ensures) (c .before .even-product .ensures)),
-      room-product R twos even-place 1 (c .before .before .parts2 .ensures) (c .even-product2 .ensures),
-    )
-
-add-halves-requires-2 : tie.Need-add-halves-requires-2
-add-halves-requires-2 c κs =
-    let R = c .before .before .before .before .before .before .before .pre .0 in (
-      room-sum R twos odd-place 0 (lit< tt) (sum-one R twos odd-place (c .before .before .before .before .before .before .parts .ensures) (c .before .odd-product .ensures)),
-      room-product R twos odd-place 1 (c .before .before .before .before .before .parts2 .ensures) (c .odd-product2 .ensures),
-    )
-
 returns : tie.Need-returns
+unfolding sum
 returns c =
-    let (R, C) = c .before .before .before .before .before .before .before .before .before .pre in
-    let a = c .before .before .before .before .before .before .before .before .parts .ensures in
-    let b = c .before .before .before .before .before .before .before .parts2 .ensures in
-    let e = sum-more R twos even-place 1 (sum-one R twos even-place a (c .before .before .before .before .before .before .even-product .ensures)) b (c .before .before .before .before .before .even-product2 .ensures) (c .before .before .before .before .add-halves .ensures) in
-    let o = sum-more R twos odd-place 1 (sum-one R twos odd-place a (c .before .before .before .odd-product .ensures)) b (c .before .before .odd-product2 .ensures) (c .before .add-halves2 .ensures) in
-    c .join .ensures _ (all-parts R twos even-place 2 (λ j h. (omega arith, omega arith)) C e) (all-parts R twos odd-place 2 (λ j h. (omega arith, omega arith)) C o)
+    let even-made = c .before .before .before .before in
+    let both-parts = even-made .before .before .before in
+    joined-parts (both-parts .before .before .pre .1) (part-more (both-parts .before .parts .ensures .0) (part-more (both-parts .parts2 .ensures .0) no-parts))
+    (λ j h. (omega arith, omega arith)) (c .join .ensures)
+    (sum-two (even-made .before .before .even-product .ensures .0) (even-made .before .even-product2 .ensures .0) (even-made .add-halves .ensures))
+    (sum-two (c .before .before .before .odd-product .ensures .0) (c .before .before .odd-product2 .ensures .0) (c .before .add-halves2 .ensures))
 
 pub twos-step-spec : {M : Type 1} → statement M
 twos-step-spec =
     tie.close
-    (tie.spec (λ c κs. (c .pre .0, (lit< tt, lit< tt))) (λ c κs. (c .before .pre .0, (lit< tt, lit< tt)))
-    (λ c κs. (room-part (c .before .before .pre .0) 2 (c .before .parts .ensures), lit< tt)) (λ c κs. (room-part (c .before .before .before .pre .0) 6 (c .before .parts2 .ensures), lit< tt))
-    add-halves-requires (λ c κs. (room-part (c .before .before .before .before .before .pre .0) 2 (c .before .before .before .before .parts .ensures), lit< tt))
-    (λ c κs. (room-part (c .before .before .before .before .before .before .pre .0) 6 (c .before .before .before .before .parts2 .ensures), lit< tt)) add-halves-requires-2 (λ c κs. tt) returns)
+    (tie.spec (λ c κs. search needs) (λ c κs. search needs) (λ c κs. search needs) (λ c κs. search needs)
+    (λ c κs. (room-le (lit≤ tt) (c .before .even-product .ensures .1), room-le (lit≤ tt) (c .even-product2 .ensures .1))) (λ c κs. search needs)
+    (λ c κs. search needs) (λ c κs. (room-le (lit≤ tt) (c .before .odd-product .ensures .1), room-le (lit≤ tt) (c .odd-product2 .ensures .1)))
+    (λ c κs. search needs) returns)

@@ -1,14 +1,9 @@
 -- `add` meets its contract: the loop fills the sum's components one by one, and each sum of two fits.
--- Assumes nothing.
-use mathlib.Core.Path.{refl, sym, _∙_}
-use Prim.Native.Nat.{_-_}
+use Rattle.integers.specs.Kit.{refl, sym, _∙_, _-_, pos, _+ℤ_}
 use native.Mathlib.Omega.{arith}
-use lib.IntN.{pos, _+ℤ_}
 use borrow.Author.Needs.{needs}
-use Rattle.integers.proofs.Magnitudes.{natAbs-add}
 use Rattle.integers.proofs.Tables.{Filled, filled-none, filled-more, filled-all}
-use Rattle.ring.specs.Element.{component}
-use Rattle.ring.proofs.Components.{Eight}
+use Rattle.ring.specs.Element.{component, Eight}
 use Rattle.elements.proofs.Bounds.{components-fit, components-kept}
 use Rattle.elements.proofs.Componentwise.{add-table}
 use Rattle.elements.proofs.add.Statement.{statement}
@@ -22,15 +17,15 @@ abbrev μ-loop : tie.MeasureT-loop
 
 plus-requires : tie.Need-plus-requires Inv-loop μ-loop
 plus-requires c κs =
-    let start = c .before .before .before .before .before .before in
-    let i = c .before .before .before .loop .i in
-    components-fit _+ℤ_ natAbs-add (start .pre .0) (start .pre .1) i i
+    let turn = c .before .before .before in
+    let (p, q) = turn .before .before .before .pre in
+    components-fit p q (turn .loop .i)
 
 loop-again : tie.Need-loop-again Inv-loop μ-loop
 loop-again c =
-    let start = c .before .before .before .before .before .before .before in
-    let i = c .before .before .before .before .loop .i in
-    filled-more (omega arith) (c .before .before .before .before .loop .inv) (components-kept _+ℤ_ natAbs-add (start .pre .0) (start .pre .1) i i (c .plus .ensures))
+    let turn = c .before .before .before .before in
+    let (p, q) = turn .before .before .before .pre in
+    filled-more (omega arith) (turn .loop .inv) (components-kept p q (turn .loop .i) (c .plus .ensures))
 
 returns : tie.Need-returns Inv-loop μ-loop
 returns c =

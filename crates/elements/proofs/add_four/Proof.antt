@@ -1,7 +1,5 @@
 -- `add_four` meets its contract: three sums, each with room for the next.
--- Assumes nothing.
-use mathlib.Core.Path.{refl, ap₂, _∙_}
-use lib.Dec.{lit≤}
+use Rattle.integers.specs.Kit.{refl, ap₂, _∙_, lit≤}
 use Rattle.ring.specs.Element.{add}
 use Rattle.elements.proofs.Bounds.{within-le}
 use Rattle.elements.proofs.Componentwise.{within-add}

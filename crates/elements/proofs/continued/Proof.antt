@@ -1,17 +1,11 @@
 -- `continued` meets its contract: each way out is one stretch of the index.
--- Assumes nothing.
-use mathlib.Core.Path.{_≡_, sym, _∙_}
-use Prim.Native.Nat.{_-_, zero-le}
+use Rattle.integers.specs.Kit.{_≡_, sym, _∙_, _-_, pos, length}
 use native.Mathlib.Omega.{arith}
-use lib.Dec.{lit<}
-use lib.IntN.{pos, _-ℤ_, negℤ, +ℤ-idl}
-use lib.ListN.{length, List·getD-eq-default}
-use mir.Syntax.{w32}
+use lib.ListN.{List·getD-eq-default}
 use borrow.Author.Needs.{needs}
-use Rattle.integers.proofs.Magnitudes.{natAbs-sub}
-use Rattle.integers.proofs.Signed.{read-i32, op-fits, op-kept}
+use Rattle.integers.proofs.Signed.{read-i32}
 use Rattle.ring.specs.Element.{component}
-use Rattle.elements.specs.Bound.{headroom}
+use Rattle.elements.proofs.Bounds.{negative-fits, negative-kept}
 use Rattle.elements.proofs.Products.{continued-low, continued-middle, continued-high}
 use Rattle.elements.proofs.continued.Statement.{statement}
 use Rattle.elements.proofs.continued.Tie as tie
@@ -41,14 +35,13 @@ returns-3 c =
 minus-requires : tie.Need-minus-requires
 minus-requires c κs =
     let start = c .before .before .before .before .before in
-    op-fits _-ℤ_ natAbs-sub w32 {B = headroom} (lit< tt) (pos 0) (component (start .args .a .components) (23 - start .args .j)) zero-le (start .pre .0 .within (23 - start .args .j))
+    negative-fits (component (start .args .a .components) (23 - start .args .j)) (start .pre .0 .within (23 - start .args .j))
 
 returns-4 : tie.Need-returns-4
 returns-4 c =
     let start = c .before .before .before .before .before .before in
-    let u = component (start .args .a .components) (23 - start .args .j) in
-    op-kept _-ℤ_ natAbs-sub w32 {B = headroom} (lit< tt) (pos 0) u zero-le (start .pre .0 .within (23 - start .args .j)) (c .minus .ensures)
-    ∙ +ℤ-idl (negℤ u) ∙ sym (continued-high (start .args .a .components) (start .args .j) (omega arith))
+    negative-kept (component (start .args .a .components) (23 - start .args .j)) (start .pre .0 .within (23 - start .args .j)) (c .minus .ensures)
+    ∙ sym (continued-high (start .args .a .components) (start .args .j) (omega arith))
 
 pub continued-spec : {M : Type 1} → statement M
 continued-spec =

@@ -1,10 +1,6 @@
 -- `element_at` meets its contract: the loop copies the components one by one.
--- Assumes nothing.
-use mathlib.Core.Path.{refl}
-use Prim.Native.Nat.{_+_, _-_, _*_}
+use Rattle.integers.specs.Kit.{refl, _+_, _-_, _*_, pos, getD}
 use native.Mathlib.Omega.{arith}
-use lib.IntN.{pos}
-use lib.ListN.{getD}
 use Rattle.integers.proofs.Signed.{read-i32}
 use Rattle.integers.proofs.Tables.{Filled, filled-none, filled-more, filled-all}
 use Rattle.elements.specs.Buffer.{element-at}

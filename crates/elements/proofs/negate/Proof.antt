@@ -1,24 +1,38 @@
--- `negate` meets its contract: a difference from 0.
--- Assumes nothing.
-use mathlib.Core.Path.{ap, _∙_}
-use lib.Dec.{lit≤}
-use lib.IntN.{pos, negsuc}
+-- `negate` meets its contract: the loop fills the negative components one by one.
+use Rattle.integers.specs.Kit.{refl, sym, _∙_, _-_, pos, negℤ}
+use native.Mathlib.Omega.{arith}
 use borrow.Author.Needs.{needs}
-use Rattle.ring.specs.Element.{subtract}
-use Rattle.ring.proofs.Components.{Eight, eight-scale}
-use Rattle.ring.proofs.Ring.{add-zero}
-use Rattle.elements.proofs.Bounds.{within-le, within-only}
+use Rattle.integers.proofs.Tables.{Filled, filled-none, filled-more, filled-all}
+use Rattle.ring.specs.Element.{component, Eight}
+use Rattle.elements.proofs.Bounds.{negative-fits, negative-kept}
+use Rattle.elements.proofs.Componentwise.{negate-table}
 use Rattle.elements.proofs.negate.Statement.{statement}
 use Rattle.elements.proofs.negate.Tie as tie
 
-subtract-requires : tie.Need-subtract-requires
-subtract-requires c κs = (rw (c .only .ensures) (within-le (lit≤ tt) (within-only (pos 0) 0)), c .before .pre)
+abbrev Inv-loop : tie.InvT-loop
+Inv-loop u r₀ i₀ r i = Filled (pos 0) 8 (λ k. negℤ (component u k)) i r
 
-returns : tie.Need-returns
+abbrev μ-loop : tie.MeasureT-loop
+μ-loop u r₀ i₀ r i = 8 - i
+
+minus-requires : tie.Need-minus-requires Inv-loop μ-loop
+minus-requires c κs =
+    let turn = c .before .before in
+    negative-fits (component (turn .before .before .args .a .components) (turn .loop .i)) (turn .before .before .pre .within (turn .loop .i))
+
+loop-again : tie.Need-loop-again Inv-loop μ-loop
+loop-again c =
+    let turn = c .before .before .before in
+    let u = component (turn .before .before .args .a .components) (turn .loop .i) in
+    filled-more (omega arith) (turn .loop .inv) (negative-kept u (turn .before .before .pre .within (turn .loop .i)) (c .minus .ensures))
+
+returns : tie.Need-returns Inv-loop μ-loop
 returns c =
-    let start = c .before .before in
-    let e : Eight (start .args .a .components) = record { eight = search needs } in
-    c .subtract .ensures ∙ ap (λ x. subtract x (start .args .a .components)) (c .before .only .ensures) ∙ add-zero (eight-scale (negsuc 0) e)
+    let p : Eight (c .before .before .before .args .a .components) = record { eight = search needs } in
+    filled-all (omega arith) (c .before .loop .inv) ∙ sym (negate-table p)
 
 pub negate-spec : {M : Type 1} → statement M
-negate-spec = tie.close (tie.spec (λ c κs. search needs) subtract-requires returns)
+negate-spec =
+    tie.close
+    (tie.spec Inv-loop μ-loop (λ c. filled-none refl) (λ c. omega arith) (λ c. omega arith) minus-requires
+    (λ c. omega arith) (λ c. omega arith) (λ c. omega arith) (λ c. omega arith) loop-again returns)

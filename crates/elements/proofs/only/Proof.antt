@@ -1,5 +1,4 @@
 -- `only` meets its contract: one store into eight zeros.
--- Assumes nothing.
 use borrow.Author.Needs.{needs}
 use Rattle.integers.proofs.Signed.{read-i32}
 use Rattle.elements.proofs.Componentwise.{set-only}

@@ -1,6 +1,5 @@
 -- `put` meets its contract: the loop stores the components one by one.
--- Assumes nothing.
-use Prim.Native.Nat.{_-_}
+use Rattle.integers.specs.Kit.{_-_}
 use native.Mathlib.Omega.{arith}
 use borrow.Author.Needs.{needs}
 use Rattle.integers.proofs.Signed.{read-i32}

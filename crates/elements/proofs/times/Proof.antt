@@ -1,20 +1,13 @@
 -- `times` meets its contract: the loop fills the product's components one by one, and each sum of two fits.
--- Assumes nothing.
-use mathlib.Core.Path.{refl, sym, ap₂, _∙_}
-use Prim.Native.Nat.{_+_, _-_}
+use Rattle.integers.specs.Kit.{refl, sym, ap₂, _∙_, _+_, _-_, pos, _+ℤ_}
 use native.Mathlib.Omega.{arith}
-use lib.Dec.{lit<}
-use lib.IntN.{pos, _+ℤ_}
-use mir.Syntax.{w32}
 use borrow.Author.Needs.{needs}
-use Rattle.integers.proofs.Magnitudes.{natAbs-add}
-use Rattle.integers.proofs.Signed.{in32, op-fits, op-kept}
+use Rattle.integers.proofs.Signed.{in32}
 use Rattle.integers.proofs.Tables.{Filled, filled-none, filled-more, filled-all}
-use Rattle.ring.proofs.Components.{Eight}
-use Rattle.elements.specs.Bound.{headroom}
+use Rattle.ring.specs.Element.{Eight}
 use Rattle.elements.specs.Continued.{continued}
 use Rattle.elements.proofs.Products.{product-table}
-use Rattle.elements.proofs.Bounds.{within-continued}
+use Rattle.elements.proofs.Bounds.{within-continued, sum-fits, sum-kept}
 use Rattle.elements.proofs.times.Statement.{statement}
 use Rattle.elements.proofs.times.Tie as tie
 
@@ -33,20 +26,20 @@ continued-requires-2 c κs = (c .before .before .before .pre .0, omega arith)
 plus-requires : tie.Need-plus-requires Inv-loop μ-loop
 plus-requires c κs =
     let start = c .before .before .before .before in
-    let w = start .pre .0 in
-    rw (c .before .continued .ensures, c .continued2 .ensures)
-    (op-fits _+ℤ_ natAbs-add w32 {B = headroom} (lit< tt) (continued (start .args .a .components) _) (continued (start .args .a .components) _)
-    (within-continued w _) (within-continued w _))
+    let u = continued (start .args .a .components) in
+    let w = within-continued (start .pre .0) in
+    rw (c .before .continued .ensures, c .continued2 .ensures) (sum-fits (u _) (u _) (w _) (w _))
 
 loop-again : tie.Need-loop-again Inv-loop μ-loop
 loop-again c =
-    let start = c .before .before .before .before .before in
-    let i = c .before .before .before .before .loop .i in
-    let k = start .args .k in
+    let turn = c .before .before .before .before in
+    let start = turn .before in
     let u = continued (start .args .a .components) in
-    let w = start .pre .0 in
-    filled-more (omega arith) (c .before .before .before .before .loop .inv)
-    (op-kept _+ℤ_ natAbs-add w32 {B = headroom} (lit< tt) (u (7 + i - k)) (u (7 + i + k)) (within-continued w (7 + i - k)) (within-continued w (7 + i + k))
+    let w = within-continued (start .pre .0) in
+    let i = turn .loop .i in
+    let k = start .args .k in
+    filled-more (omega arith) (turn .loop .inv)
+    (sum-kept (u (7 + i - k)) (u (7 + i + k)) (w (7 + i - k)) (w (7 + i + k))
     (c .plus .ensures ∙ ap₂ (λ x y. in32 x +ℤ in32 y) (c .before .before .continued .ensures) (c .before .continued2 .ensures)))
 
 returns : tie.Need-returns Inv-loop μ-loop

@@ -1,5 +1,4 @@
 -- `coefficient_float` meets its contract: the cast is of a number of few digits, and one division makes the fraction.
--- Assumes nothing.
 use lib.Ieee.{ofBits}
 use borrow.Author.Needs.{needs}
 use Rattle.integers.proofs.Signed.{read-i32}

@@ -1,5 +1,4 @@
 -- `higher` meets its contract: each way out returns what `cond` picks.
--- Assumes nothing.
 use Rattle.floats.proofs.higher.Statement.{statement}
 use Rattle.floats.proofs.higher.Tie as tie
 

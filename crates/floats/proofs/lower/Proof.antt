@@ -1,5 +1,4 @@
 -- `lower` meets its contract: each way out returns what `cond` picks.
--- Assumes nothing.
 use Rattle.floats.proofs.lower.Statement.{statement}
 use Rattle.floats.proofs.lower.Tie as tie
 

@@ -1,22 +1,17 @@
--- `sums` meets its contract: four sums.
--- Assumes nothing.
-use lib.Dec.{lit<, lit≤}
-use borrow.Author.Needs.{needs}
-use Rattle.elements.proofs.Bounds.{within-le}
+-- `sums` meets its contract: four sums, with a bit more.
+use Rattle.integers.specs.Kit.{lit<}
 use Rattle.element_rows.proofs.Rooms.{row-4}
+use Rattle.integer_step.proofs.Halves.{asked, room-sums}
 use Rattle.integer_step.proofs.sums.Statement.{statement}
 use Rattle.integer_step.proofs.sums.Tie as tie
+
+returns : tie.Need-returns
+returns c =
+    let first = c .before .before .before in
+    room-sums (first .before .pre) (row-4 (first .sum .ensures) (c .before .before .sum2 .ensures) (c .before .sum3 .ensures) (c .sum4 .ensures))
 
 pub sums-spec : {M : Type 1} → statement M
 sums-spec =
     tie.close
-    (tie.spec
-    (λ c. search needs) (λ c. search needs)
-    (λ c κs. (within-le (lit≤ tt) (c .before .before .pre .small 0 (lit< tt) .within), within-le (lit≤ tt) (c .before .before .pre .small 7 (lit< tt) .within)))
-    (λ c. search needs) (λ c. search needs)
-    (λ c κs. (within-le (lit≤ tt) (c .before .before .before .before .before .pre .small 1 (lit< tt) .within), within-le (lit≤ tt) (c .before .before .before .before .before .pre .small 6 (lit< tt) .within)))
-    (λ c. search needs) (λ c. search needs)
-    (λ c κs. (within-le (lit≤ tt) (c .before .before .before .before .before .before .before .before .pre .small 2 (lit< tt) .within), within-le (lit≤ tt) (c .before .before .before .before .before .before .before .before .pre .small 5 (lit< tt) .within)))
-    (λ c. search needs) (λ c. search needs)
-    (λ c κs. (within-le (lit≤ tt) (c .before .before .before .before .before .before .before .before .before .before .before .pre .small 3 (lit< tt) .within), within-le (lit≤ tt) (c .before .before .before .before .before .before .before .before .before .before .before .pre .small 4 (lit< tt) .within)))
-    (λ c. row-4 (c .before .before .before .before .before .before .before .before .before .add .ensures) (c .before .before .before .before .before .before .add2 .ensures) (c .before .before .before .add3 .ensures) (c .add4 .ensures)))
+    (tie.spec (λ c κs. asked (c .pre) 0 (lit< tt)) (λ c κs. asked (c .before .pre) 1 (lit< tt)) (λ c κs. asked (c .before .before .pre) 2 (lit< tt))
+    (λ c κs. asked (c .before .before .before .pre) 3 (lit< tt)) returns)

@@ -1,10 +1,6 @@
 -- `any_outside` meets its contract: the loop asks one number more each time.
--- Assumes nothing.
-use mathlib.Core.Path.{ap, _∙_}
-use Prim.Native.Nat.{_-_}
+use Rattle.integers.specs.Kit.{ap, _∙_, _-_, pos, getD}
 use native.Mathlib.Omega.{arith}
-use lib.IntN.{pos}
-use lib.ListN.{getD}
 use mir.Syntax.{w32}
 use mir.Val.{toZ}
 use borrow.Author.Needs.{needs}

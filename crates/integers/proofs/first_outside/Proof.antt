@@ -1,11 +1,6 @@
 -- `first_outside` meets its contract: the loop passes each number that is inside.
--- Assumes nothing.
-use mathlib.Core.Path.{_≡_, sym, ap, _∙_}
-use mathlib.Core.List.{List}
-use Prim.Native.Nat.{ℕ, _-_}
+use Rattle.integers.specs.Kit.{_≡_, sym, ap, _∙_, List, ℕ, _-_, ℤ, pos, getD}
 use native.Mathlib.Omega.{arith}
-use lib.IntN.{ℤ, pos}
-use lib.ListN.{getD}
 use mir.Syntax.{w32}
 use mir.Val.{SFits, toZ}
 use borrow.Author.Needs.{needs}
@@ -13,12 +8,12 @@ use Rattle.integers.specs.Range.{outside, outside-at}
 use Rattle.integers.specs.Search.{first}
 use Rattle.integers.proofs.Ranges.{ends-read}
 use Rattle.integers.proofs.Signed.{in32, read-i32}
-use Rattle.integers.proofs.Search.{Passed, passed-none, passed-more, first-at, first-none}
+use Rattle.integers.proofs.Search.{NoneBelow, none-below-0, none-below-more, first-at, first-none}
 use Rattle.integers.proofs.first_outside.Statement.{statement}
 use Rattle.integers.proofs.first_outside.Tie as tie
 
 abbrev Inv-loop : tie.InvT-loop
-Inv-loop numbers n lowest highest i₀ i = Passed n (outside-at (toZ w32 lowest) (toZ w32 highest) numbers) i
+Inv-loop numbers n lowest highest i₀ i = NoneBelow n (outside-at (toZ w32 lowest) (toZ w32 highest) numbers) i
 
 abbrev μ-loop : tie.MeasureT-loop
 μ-loop numbers n lowest highest i₀ i = n - i
@@ -43,7 +38,7 @@ loop-again c =
     let args = at .before .args in
     let z = getD (args .numbers .now) (at .loop .i) (pos 0) in
     let read = ap (outside (in32 (args .lowest)) (in32 (args .highest))) (read-i32 z (search needs)) in
-    passed-more (omega arith) (at .loop .inv) (sym read ∙ sym (c .before .outside .ensures) ∙ c .if1 .left)
+    none-below-more (omega arith) (at .loop .inv) (sym read ∙ sym (c .before .outside .ensures) ∙ c .if1 .left)
 
 returns-2 : tie.Need-returns-2 Inv-loop μ-loop
 returns-2 c =
@@ -55,5 +50,5 @@ returns-2 c =
 pub first-outside-spec : {M : Type 1} → statement M
 first-outside-spec =
     tie.close
-    (tie.spec Inv-loop μ-loop (λ c. passed-none) (λ c. omega arith) (λ c. omega arith) (λ c κs. tt) returns (λ c. omega arith)
+    (tie.spec Inv-loop μ-loop (λ c. none-below-0) (λ c. omega arith) (λ c. omega arith) (λ c κs. tt) returns (λ c. omega arith)
     (λ c. omega arith) loop-again returns-2)

@@ -1,5 +1,4 @@
 -- `higher` meets its contract: each way out returns what `cond` picks.
--- Assumes nothing.
 use borrow.Author.Needs.{needs}
 use Rattle.integers.proofs.Signed.{read-i32, compared}
 use Rattle.integers.proofs.higher.Statement.{statement}

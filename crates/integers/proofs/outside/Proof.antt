@@ -1,5 +1,4 @@
 -- `outside` meets its contract: its two comparisons are those of the definition.
--- Assumes nothing.
 use borrow.Author.Needs.{needs}
 use Rattle.integers.proofs.Signed.{read-i32}
 use Rattle.integers.proofs.outside.Statement.{statement}

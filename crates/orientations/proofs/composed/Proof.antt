@@ -1,5 +1,4 @@
 -- `composed` meets its contract: the code has the table's numbers.
--- Assumes nothing.
 use borrow.Author.Needs.{needs}
 use Rattle.orientations.specs.Orientation.{composed}
 use Rattle.orientations.proofs.composed.Statement.{statement}

@@ -1,5 +1,4 @@
 -- `is_negated` meets its contract: a computed law has the sign as the code makes it.
--- Assumes nothing.
 use Rattle.orientations.proofs.Places.{sign-code}
 use Rattle.orientations.proofs.is_negated.Statement.{statement}
 use Rattle.orientations.proofs.is_negated.Tie as tie

@@ -1,10 +1,6 @@
 -- `orient` meets its contract: the loop stores the elements one by one.
--- Assumes nothing.
-use mathlib.Core.Path.{_≡_, sym, ap, ap₂, _∙_}
-use mathlib.Core.List.{List}
-use Prim.Native.Nat.{ℕ, _-_}
+use Rattle.integers.specs.Kit.{_≡_, sym, ap, ap₂, _∙_, List, ℕ, _-_, ℤ}
 use native.Mathlib.Omega.{arith}
-use lib.IntN.{ℤ}
 use Rattle.limits.specs.Limits.{places}
 use Rattle.ring.specs.Element.{scale}
 use Rattle.elements.specs.Buffer.{element-at}

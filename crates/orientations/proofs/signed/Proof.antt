@@ -1,6 +1,5 @@
 -- `signed` meets its contract: -1 times an element, or 1 times it.
--- Assumes nothing.
-use mathlib.Core.Path.{sym}
+use Rattle.integers.specs.Kit.{sym}
 use borrow.Author.Needs.{needs}
 use Rattle.ring.proofs.Linear.{scale-one}
 use Rattle.orientations.proofs.signed.Statement.{statement}

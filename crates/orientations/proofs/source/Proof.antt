@@ -1,5 +1,4 @@
 -- `source` meets its contract: the swap or not.
--- Assumes nothing.
 use native.Mathlib.Omega.{arith}
 use borrow.Author.Tests.{lt-ltb, le-ltb}
 use Rattle.orientations.specs.Orientation.{source}

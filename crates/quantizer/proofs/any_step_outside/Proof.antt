@@ -1,6 +1,5 @@
 -- `any_step_outside` meets its contract: the loop asks one step more each time.
--- Assumes nothing.
-use Prim.Native.Nat.{_-_}
+use Rattle.integers.specs.Kit.{_-_}
 use native.Mathlib.Omega.{arith}
 use Rattle.integers.proofs.Search.{Asked, asked-none, asked-more, asked-all}
 use Rattle.limits.specs.Limits.{places}

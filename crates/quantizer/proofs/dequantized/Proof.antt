@@ -1,9 +1,6 @@
 -- `dequantized` meets its contract: a product of up to 2^44 fits 64 bits.
--- Assumes nothing.
-use mathlib.Core.Path.{_≡_, ap₂}
-use Prim.Native.Nat.{ℕ, _≤_}
+use Rattle.integers.specs.Kit.{_≡_, ap₂, ℕ, _≤_, ℤ, pos, _*ℤ_}
 use native.Mathlib.Omega.{arith}
-use lib.IntN.{ℤ, pos, _*ℤ_}
 use mir.Syntax.{w32, w64}
 use mir.Val.{SFits}
 use Rattle.integers.proofs.Magnitudes.{small-fits}

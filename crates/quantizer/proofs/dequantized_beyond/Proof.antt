@@ -1,5 +1,4 @@
 -- `dequantized_beyond` meets its contract: two comparisons.
--- Assumes nothing.
 use borrow.Author.Needs.{needs}
 use Rattle.integers.proofs.Signed.{read-i64}
 use Rattle.quantizer.proofs.dequantized_beyond.Statement.{statement}

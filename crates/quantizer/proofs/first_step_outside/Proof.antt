@@ -1,18 +1,16 @@
 -- `first_step_outside` meets its contract: where there is one, the loop passes each step that is in range.
--- Assumes nothing.
-use mathlib.Core.Path.{_≡_, sym, _∙_}
-use Prim.Native.Nat.{_-_}
+use Rattle.integers.specs.Kit.{_≡_, sym, _∙_, _-_}
 use native.Mathlib.Omega.{arith}
 use borrow.Author.Needs.{needs}
 use borrow.Author.Tests.{not-true}
-use Rattle.integers.proofs.Search.{Passed, passed-none, passed-more, first-at, first-none, any-first}
+use Rattle.integers.proofs.Search.{NoneBelow, none-below-0, none-below-more, first-at, first-none, any-first}
 use Rattle.limits.specs.Limits.{places}
 use Rattle.quantizer.specs.Quantizer.{step-outside-at}
 use Rattle.quantizer.proofs.first_step_outside.Statement.{statement}
 use Rattle.quantizer.proofs.first_step_outside.Tie as tie
 
 abbrev Inv-loop : tie.InvT-loop
-Inv-loop steps k₀ k = Passed places (step-outside-at steps) k
+Inv-loop steps k₀ k = NoneBelow places (step-outside-at steps) k
 
 abbrev μ-loop : tie.MeasureT-loop
 μ-loop steps k₀ k = 64 - k
@@ -29,7 +27,7 @@ returns-2 c =
 loop-again : tie.Need-loop-again Inv-loop μ-loop
 loop-again c =
     let at = c .before .before .before .before in
-    passed-more (omega arith) (at .loop .inv) (sym (c .before .step-outside .ensures) ∙ c .if2 .left)
+    none-below-more (omega arith) (at .loop .inv) (sym (c .before .step-outside .ensures) ∙ c .if2 .left)
 
 returns-3 : tie.Need-returns-3 Inv-loop μ-loop
 returns-3 c =
@@ -40,5 +38,5 @@ returns-3 c =
 pub first-step-outside-spec : {M : Type 1} → statement M
 first-step-outside-spec =
     tie.close
-    (tie.spec Inv-loop μ-loop (λ c κs. search needs) returns (λ c. passed-none) (λ c. omega arith) (λ c. omega arith) (λ c κs. tt) returns-2 (λ c. omega arith)
+    (tie.spec Inv-loop μ-loop (λ c κs. search needs) returns (λ c. none-below-0) (λ c. omega arith) (λ c. omega arith) (λ c κs. tt) returns-2 (λ c. omega arith)
     (λ c. omega arith) loop-again returns-3)

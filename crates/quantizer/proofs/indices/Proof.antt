@@ -1,6 +1,5 @@
 -- `indices` meets its contract: the 64 constants are computed from the walk, all at once.
--- Assumes nothing.
-use mathlib.Core.Path.{refl}
+use Rattle.integers.specs.Kit.{refl}
 use Rattle.integers.specs.Search.{first}
 use Rattle.quantizer.specs.ZigZag.{place-at, index-of}
 use Rattle.quantizer.proofs.indices.Statement.{statement}

@@ -1,10 +1,7 @@
 -- `quantized` meets its contract: the quotient of the magnitude fits, and so does its negative.
--- Assumes nothing.
-use mathlib.Core.Path.{_≡_, ap, _∙_}
-use Prim.Native.Nat.{ℕ, _≤_, _<_, _^_}
+use Rattle.integers.specs.Kit.{_≡_, ap, _∙_, ℕ, _≤_, _<_, _^_, lit<, ℤ, pos, _-ℤ_, negℤ, natAbs}
 use native.Mathlib.Nat.{lt-of-le-of-lt}
-use lib.Dec.{lit<}
-use lib.IntN.{ℤ, pos, _-ℤ_, negℤ, natAbs, +ℤ-idl}
+use lib.IntN.{+ℤ-idl}
 use mir.Syntax.{w32}
 use mir.Val.{SFits}
 use Rattle.integers.proofs.Magnitudes.{natAbs-neg, small-fits}

@@ -1,9 +1,6 @@
 -- `block` meets its contract: the loop reads the values of 64 words.
--- Assumes nothing.
-use mathlib.Core.Path.{refl, _∙_}
-use Prim.Native.Nat.{_+_, _*_, _-_}
+use Rattle.integers.specs.Kit.{refl, _∙_, _+_, _*_, _-_, pos}
 use native.Mathlib.Omega.{arith}
-use lib.IntN.{pos}
 use borrow.Author.Needs.{needs}
 use Rattle.integers.proofs.Signed.{read-i32}
 use Rattle.integers.proofs.Tables.{Filled, filled-none, filled-more, filled-all}

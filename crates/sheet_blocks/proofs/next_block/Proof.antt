@@ -1,107 +1,80 @@
--- `next_block` meets its contract: the words of the block are written over the part of the output that is left, and both sums take it in.
--- Assumes nothing.
-use mathlib.Core.Path.{_≡_, refl, ap, _∙_}
-use mathlib.Core.List.{List}
-use Prim.Native.Nat.{ℕ, _+_, _*_, _<_}
+-- `next_block` meets its contract: the words of the block are written into the output where the blocks before it end, and both sums take it in.
+use Rattle.integers.specs.Kit.{_≡_, refl, ap, _∙_, List, ℕ, _+_, _-_, _*_, _<_, ℤ, _+ℤ_, length, take, drop}
 use native.Mathlib.Omega.{arith}
-use lib.IntN.{ℤ, _+ℤ_}
 use lib.ListN.{length-take, length-drop}
 use borrow.Author.Needs.{needs}
-use Rattle.integers.proofs.Overwriting.{before-part}
+use Rattle.integers.specs.Table.{over, table}
+use Rattle.integers.proofs.Signed.{read-i32}
 use Rattle.limits.specs.Limits.{blocks-limit, places}
-use Rattle.element_sets.specs.Sets.{block-sum, elements-of}
-use Rattle.rounding.specs.Rounding.{coefficients-of}
-use Rattle.sheet_blocks.specs.Blocks.{block, block-coefficients}
+use Rattle.blocks.specs.Blocks.{block-sum, elements-of}
+use Rattle.coefficients.specs.Coefficients.{coefficients-of}
+use Rattle.sheet_blocks.specs.Blocks.{block, block-coefficients, coefficient-word}
 use Rattle.sheet_blocks.proofs.Output.{block-written}
-use Rattle.sheet_blocks.proofs.Samples.{block-words, block-range, block-fit}
-use Rattle.sheet_blocks.proofs.Sums.{agree-more, firsts-bound, samples-bound, total-fits, total-kept}
+use Rattle.sheet_blocks.proofs.Samples.{block-words, block-range}
+use Rattle.sheet_blocks.proofs.Sums.{agree-more, room}
 use Rattle.sheet_blocks.proofs.next_block.Statement.{statement}
 use Rattle.sheet_blocks.proofs.next_block.Tie as tie
 
--- y is made of the samples x of block k
-of-block : (b : ℕ) (words : List ℕ) (k : ℕ) {x y : List ℤ} → x ≡ block words k → y ≡ coefficients-of 2 b (elements-of 2 x) → y ≡ block-coefficients b words k
+-- the coefficients of the samples x of block k
+of-block : (b : ℕ) (words : List ℕ) (k : ℕ) {x : List ℤ} → x ≡ block words k → coefficients-of 2 b (elements-of 2 x) ≡ block-coefficients b words k
 unfolding block-coefficients
-of-block b words k e f = f ∙ ap (λ x. coefficients-of 2 b (elements-of 2 x)) e
+of-block b words k e = ap (λ x. coefficients-of 2 b (elements-of 2 x)) e
 
 block-requires : tie.Need-block-requires
 block-requires c κs =
     let start = c .before .before in
-    let room = block-words (start .pre .0) (start .args .state .blocks) (start .pre .1 .0) in
-    omega arith
+    omega (arith, block-words (start .pre .0) (start .args .state .blocks) (start .pre .1 .0))
 
-coefficients-requires : tie.Need-coefficients-requires
-coefficients-requires c κs =
-    let read = c .before .before in
-    let start = read .before .before .before in
-    let checked = start .pre .0 in
-    (checked .at-width, (rw (read .block .ensures) (block-range checked (start .args .state .blocks) (start .pre .1 .0)), checked .scratch-size))
-
-store-requires : tie.Need-store-requires
-store-requires c κs =
-    let made = c .before .before in
-    let read = made .before .before .before in
+convert-block-requires : tie.Need-convert-block-requires
+convert-block-requires c κs =
+    let read = c .before .before .before in
     let start = read .before .before .before in
     let checked = start .pre .0 in
     let k = start .args .state .blocks in
-    let room = block-words checked k (start .pre .1 .0) in
-    let is = of-block (start .args .b) (start .args .words .now) k (read .block .ensures) (made .coefficients .ensures .0) in
-    (rw is (block-fit checked k (start .pre .1 .0)), simp (length-take, length-drop) (omega (arith, checked .output-size)))
+    let words = block-words checked k (start .pre .1 .0) in (
+      checked .at-width,
+      (
+        rw (read .block .ensures) (block-range checked k (start .pre .1 .0)),
+        (checked .scratch-size, simp (length-take, length-drop) (omega (arith, checked .output-size))),
+      ),
+    )
 
-sum-requires : tie.Need-sum-requires
-sum-requires c κs =
-    let read = c .before .before .before .before .before .before .before .before .before in
+with-block-requires : tie.Need-with-block-requires
+with-block-requires c κs =
+    let converted = c .before .before .before .before .before .before in
+    let read = converted .before .before .before .before in
     let start = read .before .before .before in
-    rw (read .block .ensures) (block-range (start .pre .0) (start .args .state .blocks) (start .pre .1 .0))
-
-added-requires : tie.Need-added-requires
-added-requires c κs =
-    let summed = c .before in
-    let start = summed .before .before .before .before .before .before .before .before .before .before .before .before .before in
-    let few : start .args .state .blocks < blocks-limit = omega (arith, start .pre .1 .0, start .pre .0 .right .right-shape .few-blocks) in
-    total-fits few (start .args .state .totals .samples) (summed .sum .result) (samples-bound (start .pre .1 .1)) (search needs)
-
-added-requires-2 : tie.Need-added-requires-2
-added-requires-2 c κs =
-    let valued = c .before in
-    let start = valued .before .before .before .before .before .before .before .before .before .before .before .before .before .before .before .before .before in
-    let few : start .args .state .blocks < blocks-limit = omega (arith, start .pre .1 .0, start .pre .0 .right .right-shape .few-blocks) in
-    total-fits few (start .args .state .totals .firsts) (valued .value .result) (firsts-bound (start .pre .1 .1)) (search needs)
+    let checked = start .pre .0 in
+    let few : start .args .state .blocks < blocks-limit = omega (arith, start .pre .1 .0, checked .right .valid-shape .few-blocks) in
+    (room (start .pre .1 .1) few, rw (read .block .ensures) (block-range checked (start .args .state .blocks) (start .pre .1 .0)))
 
 returns : tie.Need-returns
 returns c =
-    let valued = c .before .before in
-    let added = valued .before .before in
-    let summed = added .before .before in
-    let stored = summed .before .before .before .before in
-    let made = stored .before .before .before in
-    let read = made .before .before .before in
+    let valued = c .before in
+    let converted = valued .before .before .before .before .before .before in
+    let read = converted .before .before .before .before in
     let start = read .before .before .before in
+    let args = start .args in
     let checked = start .pre .0 in
-    let k = start .args .state .blocks in
-    let totals = start .args .state .totals in
-    let few : k < blocks-limit = omega (arith, start .pre .1 .0, checked .right .right-shape .few-blocks) in
-    let room = block-words checked k (start .pre .1 .0) in
-    let is = of-block (start .args .b) (start .args .words .now) k (read .block .ensures) (made .coefficients .ensures .0) in
-    let total = summed .sum .ensures ∙ ap block-sum (read .block .ensures) in
-    let samples = total-kept few (totals .samples) (summed .sum .result) (samples-bound (start .pre .1 .1)) (search needs) (added .added .ensures) in
-    let firsts = total-kept few (totals .firsts) (valued .value .result) (firsts-bound (start .pre .1 .1)) (search needs) (c .added2 .ensures) in (
+    let k = args .state .blocks in
+    let words = block-words checked k (start .pre .1 .0) in
+    let samples = read .block .ensures in
+    let rest = length (args .output .now) - (1 + places * k) in
+    let made = converted .convert-block .ensures in
+    let is = ap (λ y. over (table places (coefficient-word y)) (take rest (drop (1 + places * k) (args .output .now)))) (of-block (args .b) (args .words .now) k samples) in
+    let left = block-written (args .b) (args .words .now) (args .output .now) k rest words (omega (arith, checked .output-size)) (omega (arith, checked .output-size)) (made .1 ∙ is) in
+    let first = read-i32 (valued .value .result) (search needs) ∙ valued .value .ensures in
+    let sums = c .with-block .ensures in (
       refl,
       (
-        agree-more (start .pre .1 .1) _ (λ i h. before-part (start .args .output .now) _ (1 + places * k) 0 i (omega (arith, checked .output-size)) h)
-            (samples ∙ ap (λ z. totals .samples +ℤ z) total) (firsts ∙ ap (λ z. totals .firsts +ℤ z) (valued .value .ensures)),
-        (
-          made .coefficients .ensures .1 ∙ ap (elements-of 2) (read .block .ensures),
-          record {
-            over-any = λ l was. block-written (start .args .b) (start .args .words .now) l k _ _ (made .coefficients .result) refl room (checked .output-size) is
-                refl (stored .store .ensures) was;
-          },
-        ),
+        agree-more (start .pre .1 .1) (args .b) (omega (arith, checked .output-size)) left
+            (sums .0 ∙ ap (λ x. args .state .totals .samples +ℤ block-sum x) samples) (sums .1 ∙ ap (λ z. args .state .totals .firsts +ℤ z) first),
+        (made .0 ∙ ap (elements-of 2) samples, left),
       ),
     )
 
 pub next-block-spec : {M : Type 1} → statement M
 next-block-spec =
     tie.close
-    (tie.spec (λ c. search needs) (λ c. search needs) block-requires coefficients-requires (λ c. search needs) (λ c. search needs) (λ c. search needs)
-    (λ c. search needs) store-requires (λ c. search needs) sum-requires added-requires (λ c. search needs) (λ c. search needs) (λ c κs. search needs)
-    added-requires-2 (λ c. search needs) (λ c. search needs) returns)
+    (tie.spec (λ c. search needs) (λ c. search needs) block-requires (λ c. search needs) (λ c. search needs) (λ c. search needs) (λ c. search needs) convert-block-requires
+    (λ c. search needs) (λ c. search needs) (λ c. search needs) (λ c κs. search needs) with-block-requires (λ c. search needs) (λ c. search needs) returns)

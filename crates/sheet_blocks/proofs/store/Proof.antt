@@ -1,10 +1,6 @@
 -- `store` meets its contract: the loop writes the words of 64 coefficients over the start of its part of the output.
--- Assumes nothing.
-use mathlib.Core.Path.{ap, _∙_}
-use Prim.Native.Nat.{_-_}
+use Rattle.integers.specs.Kit.{ap, _∙_, _-_, pos, getD}
 use native.Mathlib.Omega.{arith}
-use lib.IntN.{pos}
-use lib.ListN.{getD}
 use borrow.Author.Needs.{needs}
 use Rattle.integers.proofs.Signed.{read-i32}
 use Rattle.integers.proofs.Overwriting.{Begun, begun-none, begun-more, begun-length, begun-all}

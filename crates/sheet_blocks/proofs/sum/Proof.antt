@@ -1,7 +1,5 @@
 -- `sum` meets its contract: the loop adds one sample after the other.
--- Assumes nothing.
-use mathlib.Core.Path.{refl}
-use Prim.Native.Nat.{_-_}
+use Rattle.integers.specs.Kit.{refl, _-_}
 use native.Mathlib.Omega.{arith}
 use mir.Syntax.{w32}
 use mir.Val.{toZ}

@@ -1,5 +1,4 @@
 -- `line` meets its contract: its five parts follow one another from the start.
--- Assumes nothing.
 use borrow.Author.Needs.{needs}
 use Rattle.sheet_bytes.specs.Program.{refusal-line}
 use Rattle.text.proofs.Lines.{together, whole}

@@ -1,6 +1,5 @@
 -- `load` meets its contract: the loop writes the words one by one.
--- Assumes nothing.
-use Prim.Native.Nat.{_-_, _*_}
+use Rattle.integers.specs.Kit.{_-_, _*_}
 use native.Mathlib.Omega.{arith}
 use Rattle.integers.proofs.Overwriting.{Begun, begun-none, begun-more, begun-all, begun-length}
 use Rattle.sheet_bytes.specs.Program.{word-from, words-of}

@@ -1,8 +1,5 @@
 -- `refusal` meets its contract: the line of the answer's number and place.
--- Assumes nothing.
-use mathlib.Core.Path.{_≡_, ap, _∙_}
-use Prim.Native.Nat.{ℕ}
-use lib.ListN.{length}
+use Rattle.integers.specs.Kit.{_≡_, ap, _∙_, ℕ, length}
 use borrow.Author.Needs.{needs}
 use Rattle.integers.specs.Table.{over}
 use Rattle.answers.specs.Answer.{Returned, returned}

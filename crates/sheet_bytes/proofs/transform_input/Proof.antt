@@ -1,8 +1,6 @@
 -- `transform_input` meets its contract: bytes over are refused, and whole words go to the sheet job.
--- Assumes nothing.
-use mathlib.Core.Path.{refl, sym, ap}
+use Rattle.integers.specs.Kit.{refl, sym, ap, replicate}
 use native.Mathlib.Omega.{arith}
-use lib.ListN.{replicate}
 use borrow.Author.Needs.{needs}
 use Rattle.answers.specs.Answer.{returned}
 use Rattle.sheet_bytes.proofs.Inputs.{count, bytes-over, loaded-count, whole-words}

@@ -1,5 +1,4 @@
 -- `word_from` meets its contract: it is the word of the four bytes that it reads.
--- Assumes nothing.
 use borrow.Author.Needs.{needs}
 use Rattle.sheet_bytes.specs.Program.{word-from}
 use Rattle.sheet_bytes.proofs.word_from.Statement.{statement}

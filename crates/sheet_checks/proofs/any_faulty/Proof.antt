@@ -1,14 +1,10 @@
 -- `any_faulty` meets its contract: the loop asks one word of the body more each time, and then the end word is asked.
--- Assumes nothing.
-use mathlib.Core.Path.{_≡_, sym, ap, _∙_}
-use Prim.Native.Nat.{_-_, _≤_, _<_}
+use Rattle.integers.specs.Kit.{_≡_, sym, _∙_, _-_, _≤_, _<_, length}
 use native.Mathlib.Omega.{arith}
-use lib.Dec.{ltb}
-use lib.ListN.{length}
 use borrow.Author.Needs.{needs}
 use Rattle.integers.proofs.Search.{Asked, asked-more, asked-all}
 use Rattle.sheet_checks.specs.Check.{faulty}
-use Rattle.sheet_checks.proofs.Faults.{cause-body, cause-end, head-asked}
+use Rattle.sheet_checks.proofs.Faults.{at-body, at-end, head-asked}
 use Rattle.sheet_checks.proofs.any_faulty.Statement.{statement}
 use Rattle.sheet_checks.proofs.any_faulty.Tie as tie
 
@@ -26,7 +22,7 @@ loop-again c =
     let at = c .before .before .before in (
       omega arith,
       omega arith,
-      asked-more (omega arith) (at .loop .inv .2) (c .body-faulty .ensures ∙ ap (ltb 0) (sym (cause-body _ _ (at .loop .k) (omega arith) (omega arith)))),
+      asked-more (omega arith) (at .loop .inv .2) (c .body-faulty .ensures ∙ sym (at-body _ _ (at .loop .k) (omega arith) (omega arith) .0)),
     )
 
 returns : tie.Need-returns Inv-loop μ-loop
@@ -37,7 +33,7 @@ returns c =
     let last = length words - 1 in
     let here : at .loop .k ≡ last = omega arith in
     let cause : c .end-faulty .result ≡ faulty (start .args .f) words last =
-    c .end-faulty .ensures ∙ rw (start .pre .0) (ap (ltb 0) (sym (cause-end _ words last (omega arith) (omega arith)))) in
+    c .end-faulty .ensures ∙ rw (start .pre .0) (sym (at-end _ words last (omega arith) (omega arith) .0)) in
     asked-all (omega arith) (asked-more (omega arith) (rw here at (at .loop .inv .2)) cause)
 
 pub any-faulty-spec : {M : Type 1} → statement M

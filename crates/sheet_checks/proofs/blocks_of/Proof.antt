@@ -1,6 +1,5 @@
 -- `blocks_of` meets its contract: each way out is a law of heads.
--- Assumes nothing.
-use mathlib.Core.Path.{sym, _∙_}
+use Rattle.integers.specs.Kit.{sym, _∙_}
 use native.Mathlib.Omega.{arith}
 use borrow.Author.Needs.{needs}
 use Rattle.sheet_checks.proofs.Heads.{no-words, other-kind, too-many, allowed}

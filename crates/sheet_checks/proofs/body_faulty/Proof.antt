@@ -1,7 +1,5 @@
 -- `body_faulty` meets its contract: its tests are those of the definition.
--- Assumes nothing.
-use mathlib.Core.Path.{sym, ap, _∙_}
-use lib.Dec.{ltb}
+use Rattle.integers.specs.Kit.{sym, _∙_}
 use borrow.Author.Needs.{needs}
 use Rattle.sheet_checks.proofs.Faults.{other-kind, read-asked}
 use Rattle.sheet_checks.proofs.body_faulty.Statement.{statement}
@@ -10,7 +8,7 @@ use Rattle.sheet_checks.proofs.body_faulty.Tie as tie
 returns : tie.Need-returns
 returns c =
     let args = c .before .before .before .args in
-    sym (ap (ltb 0) (other-kind (args .f) (args .w) (λ e. c .if1 .taken (c .before .before .kind .ensures ∙ e))))
+    sym (other-kind (args .f) (args .w) (λ e. c .if1 .taken (c .before .before .kind .ensures ∙ e)) .0)
 
 returns-2 : tie.Need-returns-2
 returns-2 c =

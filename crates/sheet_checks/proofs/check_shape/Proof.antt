@@ -1,13 +1,8 @@
 -- `check_shape` meets its contract: each way out is a law of causes.
--- Assumes nothing.
-use mathlib.Core.Path.{_≡_, sym, _∙_}
-use mathlib.Core.List.{List}
-use Prim.Native.Nat.{ℕ}
-use lib.Dec.{T}
-use lib.ListN.{length}
+use Rattle.integers.specs.Kit.{_≡_, sym, _∙_, List, ℕ, T, length}
 use borrow.Author.Needs.{needs}
 use borrow.Author.Tests.{eq-eqb, ne-eqb}
-use Rattle.answers.specs.Answer.{Returned, Reason, accept-words, answered, holds, fails, passes, none-holds}
+use Rattle.answers.specs.Answer.{Returned, Reason, accept-with, answered, holds, fails, passes, none-holds}
 use Rattle.answers.proofs.Causes.{only-reason}
 use Rattle.sheet_checks.specs.declared.Format.{Format}
 use Rattle.sheet_checks.specs.Check.{shape, blocks, size-of, has-head, allowed-blocks}
@@ -17,10 +12,10 @@ use Rattle.sheet_checks.proofs.check_shape.Tie as tie
 
 -- n is what `blocks_of` answers
 module _ (f : Format) (words : List ℕ) {n : ℕ} (b : n ≡ allowed-blocks (f .head) words) where
-  ends : {r : Returned} → Reason (accept-words (length words)) (shape f words) r → r ≡ answered (shape f words) (accept-words (length words))
+  ends : {r : Returned} → Reason (accept-with (length words)) (shape f words) r → r ≡ answered (shape f words) (accept-with (length words))
   ends = only-reason
 
-  wrong-head : n ≡ 0 → record { number = 6; place = 0 } ≡ answered (shape f words) (accept-words (length words))
+  wrong-head : n ≡ 0 → record { number = 6; place = 0 } ≡ answered (shape f words) (accept-with (length words))
   wrong-head z = ends (holds (fails (no-head (f .head) words (sym b ∙ z))))
 
   module _ (some : n ≡ 0 → ⊥) where
@@ -30,10 +25,10 @@ module _ (f : Format) (words : List ℕ) {n : ℕ} (b : n ≡ allowed-blocks (f 
     counted : n ≡ blocks words
     counted = b ∙ a-head (f .head) words (λ z. some (b ∙ z)) .1
 
-    wrong-count : (length words ≡ size-of n → ⊥) → record { number = 7; place = length words } ≡ answered (shape f words) (accept-words (length words))
+    wrong-count : (length words ≡ size-of n → ⊥) → record { number = 7; place = length words } ≡ answered (shape f words) (accept-with (length words))
     wrong-count x = ends (passes head (holds (fails (ne-eqb (length words) (size-of (blocks words)) (λ z. x (rw counted z))))))
 
-    right : length words ≡ size-of n → accept-words (length words) ≡ answered (shape f words) (accept-words (length words))
+    right : length words ≡ size-of n → accept-with (length words) ≡ answered (shape f words) (accept-with (length words))
     right c = ends (passes head (passes (rw (eq-eqb (length words) (size-of (blocks words)) (rw counted at c)) tt) none-holds))
 
 returns : tie.Need-returns

@@ -1,5 +1,4 @@
 -- `check_sheet` meets its contract: the shape decides, and past it the words do.
--- Assumes nothing.
 use borrow.Author.Needs.{needs}
 use Rattle.sheet_checks.proofs.Causes.{wrong-shape, shaped, words-decide}
 use Rattle.sheet_checks.proofs.check_sheet.Statement.{statement}

@@ -1,10 +1,7 @@
 -- `check_words` meets its contract: where no word is faulty there is none to find.
--- Assumes nothing.
-use mathlib.Core.Path.{sym, _∙_}
-use mathlib.Core.List.{[], _∷_}
+use Rattle.integers.specs.Kit.{sym, _∙_, [], _∷_, length}
 use native.Mathlib.Nat.{mul-pos}
 use native.Mathlib.Omega.{arith}
-use lib.ListN.{length}
 use borrow.Author.Needs.{needs}
 use Rattle.integers.proofs.Search.{any-none}
 use Rattle.answers.specs.Answer.{passes, none-holds}

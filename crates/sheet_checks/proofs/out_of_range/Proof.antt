@@ -1,7 +1,5 @@
 -- `out_of_range` meets its contract: each kind of values has its refusal.
--- Assumes nothing.
-use mathlib.Core.Path.{_≡_, sym, ap}
-use Prim.Native.Nat.{ℕ}
+use Rattle.integers.specs.Kit.{_≡_, sym, ap, ℕ}
 use borrow.Author.Needs.{needs}
 use Rattle.answers.specs.Answer.{Returned}
 use Rattle.sheet_checks.specs.declared.Values.{Values}

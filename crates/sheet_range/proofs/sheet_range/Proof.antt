@@ -1,8 +1,5 @@
 -- `sheet_range` meets its contract: the check decides, and past it the range is that of the sheet.
--- Assumes nothing.
-use mathlib.Core.Path.{_≡_, refl, sym, _∙_}
-use mathlib.Core.List.{List}
-use Prim.Native.Nat.{ℕ}
+use Rattle.integers.specs.Kit.{_≡_, refl, sym, _∙_, List, ℕ}
 use lib.Ieee.{ofBits}
 use borrow.Author.Needs.{needs}
 use Rattle.answers.proofs.Jobs.{refused, accepted-leaves}

@@ -1,9 +1,5 @@
 -- `convert` meets its contract: a refused sheet becomes its line, and an accepted one the line of its sums.
--- Assumes nothing.
-use mathlib.Core.Path.{refl, sym, ap, _∙_}
-use mathlib.Core.List.{List}
-use Prim.Native.Nat.{ℕ}
-use lib.ListN.{take}
+use Rattle.integers.specs.Kit.{refl, sym, ap, _∙_, List, ℕ, take}
 use borrow.Author.Needs.{needs}
 use Rattle.answers.proofs.Jobs.{done}
 use Rattle.sheet_blocks.specs.declared.Totals.{Totals}

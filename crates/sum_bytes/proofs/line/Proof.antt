@@ -1,6 +1,5 @@
 -- `line` meets its contract: its five parts follow one another from the start.
--- Assumes nothing.
-use mathlib.Core.Path.{ap}
+use Rattle.integers.specs.Kit.{ap}
 use borrow.Author.Needs.{needs}
 use Rattle.integers.proofs.Signed.{read-i64}
 use Rattle.text.specs.Decimal.{signed-decimal}

@@ -1,9 +1,6 @@
 -- `copy` meets its contract: the loop writes the text byte by byte.
--- Assumes nothing.
-use mathlib.Core.Path.{refl, sym, ap, _∙_}
-use Prim.Native.Nat.{_-_}
+use Rattle.integers.specs.Kit.{refl, sym, ap, _∙_, _-_, length, getD}
 use native.Mathlib.Omega.{arith}
-use lib.ListN.{length, getD}
 use Rattle.integers.specs.Table.{over}
 use Rattle.integers.proofs.Tables.{is-table}
 use Rattle.integers.proofs.Overwriting.{Begun, begun-none, begun-more, begun-all, begun-length}

@@ -1,8 +1,6 @@
 -- `put` meets its contract: the rest of the output is lent to `copy`.
--- Assumes nothing.
-use Prim.Native.Nat.{_-_}
+use Rattle.integers.specs.Kit.{_-_, length}
 use native.Mathlib.Omega.{arith}
-use lib.ListN.{length}
 use borrow.Author.Needs.{needs}
 use Rattle.text.proofs.Lines.{lent}
 use Rattle.text.proofs.put.Statement.{statement}

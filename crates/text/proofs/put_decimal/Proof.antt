@@ -1,9 +1,9 @@
 -- `put_decimal` meets its contract: the digits that `io::decimal` makes are the fewest that hold the number.
--- Assumes nothing.
-use mathlib.Core.Path.{_∙_}
+use Rattle.integers.specs.Kit.{_∙_}
 use native.Mathlib.Omega.{arith}
 use borrow.Author.Needs.{needs}
 use Rattle.text.proofs.Decimals.{fewest, twenty}
+use Rattle.text.proofs.Lines.{same-part}
 use Rattle.text.proofs.put_decimal.Statement.{statement}
 use Rattle.text.proofs.put_decimal.Tie as tie
 
@@ -14,11 +14,13 @@ put-requires c κs =
 
 returns : tie.Need-returns
 returns c =
-    let written = c .before .before .put .ensures in
-    let made = c .before .before .before .before .before .decimal in
-    let start = c .before .before .before .before .before .before .before .before in
-    let few = twenty _ (made .result) (omega arith) (made .ensures .1 .0) in
-    (rw (made .ensures .1 .1 ∙ fewest (start .args .n) (made .result) (made .ensures .1 .0)) at written, omega (arith, written .end))
+    let put = c .before .before in
+    let made = put .before .before .before in
+    let n = made .before .before .before .args .n in
+    let digits = made .decimal .ensures .1 in
+    let few = twenty n (made .decimal .result) (omega arith) (digits .0) in
+    let written = put .put .ensures in
+    (same-part (digits .1 ∙ fewest n (made .decimal .result) (digits .0)) written, omega (arith, written .end))
 
 pub put-decimal-spec : {M : Type 1} → statement M
 put-decimal-spec =

@@ -1,9 +1,6 @@
 -- `put_signed` meets its contract: below zero a minus sign stands before the digits of the magnitude.
--- Assumes nothing.
-use mathlib.Core.Path.{ap, _∙_}
-use mathlib.Core.List.{[], _∷_, _++_}
+use Rattle.integers.specs.Kit.{ap, _∙_, [], _∷_, _++_, natAbs}
 use native.Mathlib.Omega.{arith}
-use lib.IntN.{natAbs}
 use borrow.Author.Needs.{needs}
 use Rattle.integers.proofs.Signed.{read-i64}
 use Rattle.text.specs.Decimal.{decimal, minus}
@@ -20,7 +17,7 @@ returns c =
     let start = tested .before .before .before in
     let z = start .args .n in
     let read = read-i64 z (start .fits .n) in
-    let made = ap decimal (tested .before .magnitude .ensures ∙ ap natAbs read) in
+    let made = ap decimal (tested .before .wide-magnitude .ensures ∙ ap natAbs read) in
     let is = ap (λ t. (minus ∷ []) ++ t) made ∙ below-zero z (rw read at (tested .if1 .taken)) in
     (same-part is (together (sign .put .ensures) (digits .put-decimal .ensures .0)), omega (arith, sign .put .ensures .end, digits .put-decimal .ensures .1))
 
@@ -31,7 +28,7 @@ returns-2 c =
     let start = tested .before .before .before in
     let z = start .args .n in
     let read = read-i64 z (start .fits .n) in
-    let is = ap decimal (tested .before .magnitude .ensures ∙ ap natAbs read) ∙ from-zero z (rw read at (tested .if1 .left)) in
+    let is = ap decimal (tested .before .wide-magnitude .ensures ∙ ap natAbs read) ∙ from-zero z (rw read at (tested .if1 .left)) in
     (same-part is (digits .put-decimal2 .ensures .0), omega (arith, digits .put-decimal2 .ensures .1))
 
 pub put-signed-spec : {M : Type 1} → statement M

@@ -1,7 +1,5 @@
 -- `byte_of` meets its contract: a shift by 8 bits for each byte that follows is a division by that power of 256.
--- Assumes nothing.
-use mathlib.Core.Path.{_≡_, refl}
-use Prim.Native.Nat.{ℕ, zero, suc, _-_, _*_, _/_, _%_, _^_, _<_}
+use Rattle.integers.specs.Kit.{_≡_, refl, ℕ, zero, suc, _-_, _*_, _/_, _%_, _^_, _<_}
 use native.Mathlib.Omega.{arith}
 use borrow.Author.Needs.{needs}
 use Rattle.transform_bytes.specs.Output.{byte-of}

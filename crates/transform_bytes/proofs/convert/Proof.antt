@@ -1,10 +1,8 @@
 -- `convert` meets its contract: a refused sheet becomes a line, and an accepted one its bytes.
--- Assumes nothing.
-use mathlib.Core.Path.{refl, sym, _∙_}
+use Rattle.integers.specs.Kit.{refl, sym, _∙_, take, replicate, ℕ}
 use native.Mathlib.Omega.{arith}
-use lib.ListN.{take, replicate, length-replicate}
+use lib.ListN.{length-replicate}
 use borrow.Author.Needs.{needs}
-use Prim.Native.Nat.{ℕ}
 use Rattle.sheet_bytes.specs.Program.{input-limit, words-limit}
 use Rattle.sheet_bytes.proofs.Programs.{promised, refused-bytes}
 use Rattle.transform_bytes.specs.Output.{output-bytes}
@@ -43,8 +41,9 @@ store-requires c κs = omega (arith, left (c .before .before) .room, left (c .be
 
 returns-2 : tie.Need-returns-2
 returns-2 c =
-    let w = left (c .before .before .before) in
-    let args = c .before .before .before .before .before .before .before .before .before .args in
+    let placed = c .before .before .before in
+    let w = left placed in
+    let args = placed .before .before .before .before .before .before .args in
     let (m, (l, counts)) = promised (args .output .now) (w .is) (c .store .ensures .0 ∙ sym (length-bytes _)) (c .store .ensures .1) in
     (m, (l, (counts, refl)))
 

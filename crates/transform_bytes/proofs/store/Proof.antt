@@ -1,9 +1,6 @@
 -- `store` meets its contract: the loop writes the bytes one by one.
--- Assumes nothing.
-use mathlib.Core.Path.{refl}
-use Prim.Native.Nat.{_-_, _/_, _%_}
+use Rattle.integers.specs.Kit.{refl, _-_, _/_, _%_, getD}
 use native.Mathlib.Omega.{arith}
-use lib.ListN.{getD}
 use Rattle.integers.proofs.Overwriting.{Begun, begun-none, begun-more, begun-all, begun-length}
 use Rattle.transform_bytes.specs.Output.{byte-of, bytes-of}
 use Rattle.transform_bytes.proofs.store.Statement.{statement}

@@ -1,10 +1,7 @@
 -- `blocks` meets its contract: both sizes are below 2^14, so their product fits.
--- Assumes nothing.
-use mathlib.Core.Path.{refl}
-use Prim.Native.Nat.{ℕ, _*_, _^_, _≤_}
+use Rattle.integers.specs.Kit.{refl, ℕ, _*_, _^_, _≤_, lit<}
 use native.Mathlib.Nat.{lt-of-le-of-lt, mul-le-mul}
 use native.Mathlib.Omega.{arith}
-use lib.Dec.{lit<}
 use mir.Syntax.{w32}
 use mir.Val.{Fits}
 use Rattle.words.proofs.blocks.Statement.{statement}

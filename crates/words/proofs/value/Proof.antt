@@ -1,11 +1,7 @@
 -- `value` meets its contract: the rank and the count of negative values fit an i32 as they stand, and so does their difference.
--- Assumes nothing.
-use mathlib.Core.Path.{_≡_, ap₂, _∙_}
-use Prim.Native.Nat.{ℕ}
+use Rattle.integers.specs.Kit.{_≡_, ap₂, _∙_, ℕ, lit<, pos, _-ℤ_}
 use native.Mathlib.Nat.{lt-of-le-of-lt}
 use native.Mathlib.Omega.{arith}
-use lib.Dec.{lit<}
-use lib.IntN.{pos, _-ℤ_}
 use mir.Syntax.{w32}
 use mir.Val.{SFits, toZ}
 use mir.ValLaws.{toZ-pos}

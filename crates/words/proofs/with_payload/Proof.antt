@@ -1,5 +1,4 @@
 -- `with_payload` meets its contract: a word of a kind below 16 fits 32 bits.
--- Assumes nothing.
 use native.Mathlib.Omega.{arith}
 use Rattle.words.proofs.with_payload.Statement.{statement}
 use Rattle.words.proofs.with_payload.Tie as tie

@@ -1,18 +1,14 @@
 -- `with_value` meets its contract: a value that is not negative is its own payload, and another is brought up by 2^28.
--- Assumes nothing.
-use mathlib.Core.Path.{_≡_, sym, ap, _∙_}
-use mathlib.Core.Bool.{true}
-use Prim.Native.Nat.{ℕ, _-_, _≤_, _<_}
+use Rattle.integers.specs.Kit.{_≡_, sym, ap, _∙_, true, ℕ, _-_, _≤_, _<_, T, lit<, lit≤, ℤ, pos, _+ℤ_, natAbs}
 use native.Mathlib.Nat.{lt-trans}
 use native.Mathlib.Omega.{arith}
-use lib.Dec.{T, lit<, lit≤}
-use lib.IntN.{ℤ, pos, _+ℤ_, natAbs}
 use lib.Signed.{ltZ, nonNeg}
 use mir.Syntax.{w32}
 use mir.Val.{Fits, SFits}
+use Rattle.integers.proofs.Magnitudes.{not-negative}
 use Rattle.integers.proofs.Signed.{in32, kept}
 use Rattle.words.specs.Word.{payloads, word, value-limit}
-use Rattle.words.proofs.Packing.{payload-of-negative, payload-of-other, negative-above, negative-plus, not-negative}
+use Rattle.words.proofs.Packing.{payload-of-negative, payload-of-other, negative-above, negative-plus}
 use Rattle.words.proofs.with_value.Statement.{statement}
 use Rattle.words.proofs.with_value.Tie as tie
 

@@ -1,3 +1,0 @@
-pub mod Preconditions
-pub mod ToFloats
-pub mod Summary

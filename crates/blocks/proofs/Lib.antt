@@ -1,0 +1,2 @@
+-- A block's elements in a buffer.
+pub mod Blocks

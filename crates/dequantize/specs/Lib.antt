@@ -1,0 +1,2 @@
+pub mod Dequantize
+pub mod Narrow

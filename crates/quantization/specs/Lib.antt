@@ -1,2 +1,0 @@
-pub mod Preconditions
-pub mod Quantization

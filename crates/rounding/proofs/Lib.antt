@@ -1,8 +1,0 @@
--- The table numbers, what fits where, the halves that are 0, the code's own sums, how near coefficients are, which calls are accepted, and what they leave.
-pub mod Tables
-pub mod Sizes
-pub mod Halves
-pub mod Steps
-pub mod Distance
-pub mod Blocks
-pub mod Meaning

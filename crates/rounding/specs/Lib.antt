@@ -1,3 +1,0 @@
-pub mod Preconditions
-pub mod Rounding
-pub mod Tables

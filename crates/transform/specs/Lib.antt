@@ -1,2 +1,0 @@
-pub mod Forward
-pub mod Rows
