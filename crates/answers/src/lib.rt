@@ -1,8 +1,10 @@
 // What the public jobs answer. specs/ gives the papers' number and place for each case.
+#![tactic(auto)]
+
 ghost use Rattle.integers.specs.Kit.{◌≡◌};
 ghost use Rattle.answers.specs.Answer.{returned};
 
-#[derive(Drop)]
+#[derive(Clone, Copy)]
 pub enum Answer {
     // The call did its work. The number is how many words sheet wrote; of compose_orientations, the orientation; of every other job, 0.
     Accepted(usize),

@@ -8,6 +8,8 @@
 // restored, and make the same 512 numbers of it. A block's set is within the limit of cause 4, so the elements are searched for cause
 // 4 only once there is known to be no block. Before that only single numbers are checked, those of the five rows that the passes read: this is quicker,
 // and enough for the sums of the passes to fit 32 bits.
+#![tactic(auto)]
+
 ghost use Rattle.integers.specs.Kit.{◌≡◌, T, length};
 ghost use Rattle.integers.specs.Test.{eq_list};
 ghost use Rattle.limits.specs.Limits.{components_size, places};
@@ -68,7 +70,7 @@ fn refusal(elements: &[i32]) -> Answer
 }
 
 // The answer for some elements, and of an accepted call the block that has them.
-#[derive(Drop)]
+#[derive(Clone, Copy)]
 struct Found {
     answer: Answer,
     block: [i32; PLACES],
@@ -124,7 +126,7 @@ fn store(block: [i32; PLACES], samples: &mut [i32])
 pub fn back(elements: &[i32], samples: &mut [i32]) -> Answer
     ensures result_value { returned result ≡ job_returned (back_job 2 elements.now samples.old) }
     ensures samples_after { samples.new ≡ job_left (back_job 2 elements.now samples.old) }
-    ensures elements_value { elements.now ≡ elements.now }
+    ensures elements_value { elements.exit.now ≡ elements.entry.now }
 {
     let found = check(elements, samples.len());
     let answer = found.answer;

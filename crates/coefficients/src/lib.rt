@@ -3,6 +3,8 @@
 // The functions for one element take its halvings, and serve two and three dimensions. 64 bits suffice: no table number is above 2^(b+1), nor b above
 // 26, so that N and its terms are at most 2^27 times the limit of the magnitudes (`largest`): for that of three dimensions, 2^26, this is 2^53. In 32
 // bits the products would wrap at each b.
+#![tactic(auto)]
+
 ghost use Rattle.integers.specs.Kit.{◌≡◌, false, ◌^◌, ◌<◌, T, pos, ◌+ℤ◌, ◌*ℤ◌};
 ghost use Rattle.std.specs.Int.{w64};
 ghost use Rattle.std.proofs.Common.{SFits};

@@ -2,6 +2,8 @@
 //
 // It takes any numbers and any buffers. An accepted call leaves 64 products; a refused one leaves the buffer as it was, and names the first cause. Each
 // product is made once, in 64 bits, before it is known whether any is beyond its limit.
+#![tactic(auto)]
+
 ghost use Rattle.integers.specs.Kit.{◌≡◌, length};
 ghost use Rattle.integers.specs.Range.{beyond_at};
 ghost use Rattle.integers.specs.Search.{any, first};
@@ -67,8 +69,8 @@ fn narrow(products: &[i64], coefficients: &mut [i32])
 pub fn dequantize(values: &[i32], steps: &[u32], coefficients: &mut [i32]) -> Answer
     ensures result_value { returned result ≡ job_returned (spec.dequantize_job values.now steps.now coefficients.old) }
     ensures coefficients_after { coefficients.new ≡ job_left (spec.dequantize_job values.now steps.now coefficients.old) }
-    ensures values_value { values.now ≡ values.now }
-    ensures steps_value { steps.now ≡ steps.now }
+    ensures values_value { values.exit.now ≡ values.entry.now }
+    ensures steps_value { steps.exit.now ≡ steps.entry.now }
 {
     let answer = check_steps(values.len(), steps, coefficients.len());
     if number(answer) != 0 {

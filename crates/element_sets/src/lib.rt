@@ -2,6 +2,8 @@
 // limit, by 01's cause 4; what forward writes for a block in range is within it (`block-set`).
 //
 // `first_above` finds the element that cause 4 names. The sums are u64: eight magnitudes of 2^31 each do not fit 32 bits.
+#![tactic(auto)]
+
 ghost use Rattle.integers.specs.Kit.{◌≡◌, ◌*◌, length};
 ghost use Rattle.integers.specs.Search.{first};
 ghost use Rattle.ring.specs.Element as ring;

@@ -6,6 +6,8 @@
 // another one (`conjugate-step`), with nothing to add up.
 //
 // 32 bits suffice: the parts of 23 bits need 27 after the step, 28 after the product, and 30 after the sum of four.
+#![tactic(auto)]
+
 ghost use Rattle.integers.specs.Kit.{◌≡◌, [], ◌∷◌, ◌*◌, ◌+◌, ◌<◌};
 ghost use Rattle.ring.specs.Element as ring;
 ghost use Rattle.ring.specs.Maps as maps;

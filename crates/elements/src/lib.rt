@@ -6,6 +6,8 @@
 // `within_subtract`), and a product with c_k doubles its operand's (`within_cosine`): a caller that knows a bound at the start knows one at each
 // step. A product of a whole number with c_m, and a component along c_m, need no addition: c_m is plus or minus one of c_1 to c_7, or a whole
 // number, which no angle of a step is.
+#![tactic(auto)]
+
 ghost use Rattle.integers.specs.Kit.{◌≡◌, ◌%◌, ◌*◌, ◌+◌, ◌<◌, ◌≤◌, pos, nat_abs, ◌*ℤ◌, length};
 ghost use Rattle.std.specs.Int.{w32};
 ghost use Rattle.std.proofs.Common.{SFits};
@@ -19,7 +21,7 @@ ghost use Rattle.elements.specs.Continued as spec;
 use integers::{minus, plus};
 
 // The eight components, u_0 first.
-#[derive(Drop)]
+#[derive(Clone, Copy)]
 pub struct Element {
     pub components: [i32; 8],
 }

@@ -1,5 +1,7 @@
 // The viewer's 32-bit floats (02, request 4): a coefficient in eighths, and the mean grey of a block. Each is a whole number below 2^24 in magnitude
 // as an f32, which is exact, divided once by a power of two, which is exact too. And the lower and the higher of two floats.
+#![tactic(auto)]
+
 ghost use Rattle.integers.specs.Kit.{◌≡◌, cond, ◌≤◌, nat_abs};
 ghost use Rattle.std.specs.Float.Ieee.{lt};
 ghost use Rattle.limits.specs.Limits.{coefficient_limit};

@@ -1,6 +1,8 @@
 // The job forward (01, "Elements"): 64 samples become 64 elements of eight components each.
 //
 // `forward` takes any buffers. An accepted call leaves the exact elements; a refused one leaves the buffer as it was, and names the first cause.
+#![tactic(auto)]
+
 ghost use Rattle.integers.specs.Kit.{◌≡◌};
 ghost use Rattle.answers.specs.Answer.{accept, answered, returned};
 ghost use Rattle.answers.specs.Job.{job_left, job_returned};
@@ -31,7 +33,7 @@ fn check(samples: &[i32], room: usize) -> Answer
 pub fn forward(samples: &[i32], elements: &mut [i32]) -> Answer
     ensures result_value { returned result ≡ job_returned (forward_job 2 samples.now elements.old) }
     ensures elements_after { elements.new ≡ job_left (forward_job 2 samples.now elements.old) }
-    ensures samples_value { samples.now ≡ samples.now }
+    ensures samples_value { samples.exit.now ≡ samples.entry.now }
 {
     let answer = check(samples, elements.len());
     if number(answer) != 0 {

@@ -7,6 +7,8 @@
 //
 // 32 bits suffice: a sample's magnitude needs 16, the step over whole numbers adds three, and that over elements at most four (`small_step`): 23.
 // `element_steps` allows for 23 before its step already.
+#![tactic(auto)]
+
 ghost use Rattle.integers.specs.Kit.{◌≡◌, [], ◌∷◌, ◌*◌, ◌+◌, ◌<◌, length};
 ghost use Rattle.integers.specs.Table.{table};
 ghost use Rattle.ring.specs.Element as ring;

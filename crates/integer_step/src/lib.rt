@@ -7,6 +7,8 @@
 // since c_m is plus or minus one of c_1 to c_7.
 //
 // 32 bits suffice: a component of a frequency is a sum of at most eight of the numbers, which adds three bits; they may have 27.
+#![tactic(auto)]
+
 ghost use Rattle.integers.specs.Kit.{◌%◌, ◌*◌, ◌+◌, ◌-◌, ◌<◌, ◌≡◌};
 ghost use Rattle.ring.specs.Element as ring;
 ghost use Rattle.ring.specs.Maps.{part};

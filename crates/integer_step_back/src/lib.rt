@@ -6,6 +6,8 @@
 // sums and differences, all eight places.
 //
 // 32 bits suffice: a sum of eight numbers of 24 bits needs 27.
+#![tactic(auto)]
+
 ghost use Rattle.integers.specs.Kit.{◌≡◌, ◌%◌, ◌-◌, ◌<◌, ◌+ℤ◌};
 ghost use Rattle.ring.specs.Element as ring;
 ghost use Rattle.dct.specs.Inverse.{half_back, integer_back};

@@ -13,6 +13,7 @@ pub use Rattle.integers.specs.Test.{every₂, every₃}
 
 pub holds : (t : Bool) → T t → t ≡ true
 holds true h = refl
+holds false h = elim h [ ]
 
 pub fails : (t : Bool) → (T t → ⊥) → t ≡ false
 fails true h = absurd (h tt)

@@ -1,5 +1,7 @@
 // Sum and difference of two i32 as functions, so that where one is stored into an array only its fit is asked for; the lower and the higher of two; the
 // magnitude of an i32 and of an i64, as a u64, since that of the least is none of its type; and which of some i32 is the first that lies outside a range.
+#![tactic(auto)]
+
 ghost use Rattle.integers.specs.Kit.{◌≡◌, cond, ◌≤◌, ◌+ℤ◌, ◌-ℤ◌, nat_abs, length};
 ghost use Rattle.std.specs.Int.Signed.{lt_z};
 ghost use Rattle.std.proofs.Common.{SFits};

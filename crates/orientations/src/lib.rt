@@ -1,6 +1,8 @@
 // The orientations of a block (02, request 1), on its elements: each comes from one place, as itself or as its negative.
 //
 // 32 bits suffice: in an accepted set no component is above the limit of an element's magnitudes, and its negative is as large.
+#![tactic(auto)]
+
 ghost use Rattle.integers.specs.Kit.{◌≡◌, cond, ◌<◌, negsuc, pos, length};
 ghost use Rattle.limits.specs.Limits.{components_size, magnitudes_limit, places};
 ghost use Rattle.ring.specs.Element as ring;

@@ -2,6 +2,8 @@
 //
 // It takes any numbers and any buffers, and looks at everything before it writes anything: an accepted call leaves 64 numbers, each made of the
 // coefficient at its place and of the step of that place; a refused one leaves the buffer as it was, and names the first cause.
+#![tactic(auto)]
+
 ghost use Rattle.integers.specs.Kit.{◌≡◌, length};
 ghost use Rattle.integers.specs.Range.{beyond_at};
 ghost use Rattle.limits.specs.Limits.{coefficient_limit};
@@ -67,8 +69,8 @@ fn fill(coefficients: &[i32], steps: &[u32], values: &mut [i32])
 pub fn quantize(coefficients: &[i32], steps: &[u32], values: &mut [i32]) -> Answer
     ensures result_value { returned result ≡ job_returned (spec.quantize_job coefficients.now steps.now values.old) }
     ensures values_after { values.new ≡ job_left (spec.quantize_job coefficients.now steps.now values.old) }
-    ensures coefficients_value { coefficients.now ≡ coefficients.now }
-    ensures steps_value { steps.now ≡ steps.now }
+    ensures coefficients_value { coefficients.exit.now ≡ coefficients.entry.now }
+    ensures steps_value { steps.exit.now ≡ steps.entry.now }
 {
     let answer = check(coefficients, steps, values.len());
     if number(answer) != 0 {

@@ -1,6 +1,8 @@
 // Quantization of one coefficient by its step (02, request 2), and dequantization; and which quantization step of the list belongs to which place.
 //
 // 32 bits suffice for the quotient: a magnitude plus half of its divisor is at most 4,198,399. A product in dequantization has a magnitude of up to 2^44.
+#![tactic(auto)]
+
 ghost use Rattle.integers.specs.Kit.{◌≡◌, ◌<◌, ◌+◌, ◌*◌, ◌/◌, ◌≤◌, nat_abs, length};
 ghost use Rattle.integers.specs.Range.{beyond};
 ghost use Rattle.integers.specs.Search.{any, first};

@@ -3,6 +3,8 @@
 // `reorient` takes any buffers and any orientation. An accepted call leaves the elements of the block in that orientation, where they are a block's,
 // and of any other accepted set the same elements by the same rule of place and sign; a refused one leaves the buffer as it was, and names the first
 // cause.
+#![tactic(auto)]
+
 ghost use Rattle.integers.specs.Kit.{◌≡◌};
 ghost use Rattle.answers.specs.Answer.{accept, answered, returned};
 ghost use Rattle.answers.specs.Job.{job_left, job_returned};
@@ -37,7 +39,7 @@ fn check(elements: &[i32], orientation: u32, room: usize) -> Answer
 pub fn reorient(elements: &[i32], orientation: u32, output: &mut [i32]) -> Answer
     ensures result_value { returned result ≡ job_returned (reorient_job elements.now orientation output.old) }
     ensures output_after { output.new ≡ job_left (reorient_job elements.now orientation output.old) }
-    ensures elements_value { elements.now ≡ elements.now }
+    ensures elements_value { elements.exit.now ≡ elements.entry.now }
 {
     let answer = check(elements, orientation, output.len());
     if number(answer) != 0 {

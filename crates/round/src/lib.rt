@@ -2,6 +2,8 @@
 //
 // `round` takes any buffers and any b. An accepted call leaves the formula's 64 numbers, each within the promised distance (`AllNear`) of half
 // of its element's value; a refused one leaves the buffer as it was, and names the first cause.
+#![tactic(auto)]
+
 ghost use Rattle.integers.specs.Kit.{◌≡◌, ◌<◌, T};
 ghost use Rattle.answers.specs.Answer.{accept, accepted, answered, returned};
 ghost use Rattle.answers.specs.Job.{job_left, job_returned};
@@ -38,7 +40,7 @@ pub fn round(elements: &[i32], b: u32, coefficients: &mut [i32]) -> Answer
     ensures result_value { returned result ≡ job_returned (round_job 2 elements.now b coefficients.old) }
     ensures coefficients_after { coefficients.new ≡ job_left (round_job 2 elements.now b coefficients.old) }
     ensures all_near { T (accepted (returned result)) → AllNear 2 elements.now b coefficients.new }
-    ensures elements_value { elements.now ≡ elements.now }
+    ensures elements_value { elements.exit.now ≡ elements.entry.now }
 {
     let answer = check(elements, b, coefficients.len());
     if number(answer) != 0 {

@@ -2,6 +2,8 @@
 //
 // `sheet` takes any words, any b and any buffers. It looks at everything before it writes anything: an accepted call leaves the whole
 // coefficient sheet and gives both sums, a refused one leaves both buffers as they were and names the first cause.
+#![tactic(auto)]
+
 ghost use Rattle.integers.specs.Kit.{◌≡◌, length};
 ghost use Rattle.answers.specs.Answer.{accept_with, answered, returned};
 ghost use Rattle.answers.specs.Job.{job_left, job_returned};
@@ -16,7 +18,7 @@ use sheet_blocks::{Totals, convert};
 use sheet_checks::{SAMPLE_FORMAT, check_shape, check_words};
 
 // What `sheet` answers: why a sheet is refused or that it is accepted, and its sums.
-#[derive(Drop)]
+#[derive(Clone, Copy)]
 pub struct SheetAnswer {
     pub answer: Answer,
     pub totals: Totals,
@@ -62,7 +64,7 @@ pub fn sheet(words: &[u32], b: u32, scratch: &mut [i32], output: &mut [u32]) -> 
     ensures totals_value { result.totals ≡ (job_left (sheet_job element_scratch words.now b scratch.old output.old)).totals }
     ensures scratch_after { scratch.new ≡ (job_left (sheet_job element_scratch words.now b scratch.old output.old)).scratch }
     ensures output_after { output.new ≡ (job_left (sheet_job element_scratch words.now b scratch.old output.old)).output }
-    ensures words_value { words.now ≡ words.now }
+    ensures words_value { words.exit.now ≡ words.entry.now }
 {
     let answer = check(words, b, COMPONENTS, scratch.len(), output.len());
     if number(answer) != 0 {

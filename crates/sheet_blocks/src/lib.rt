@@ -2,6 +2,8 @@
 //
 // Each block goes through `transform` and `fill`, which check nothing: the check of the sheet gives what they ask. What the
 // loop carries is a record by value, with the sums of the samples and of the first coefficients so far.
+#![tactic(auto)]
+
 ghost use Rattle.integers.specs.Kit.{◌≡◌, ◌*◌, ◌+◌, ◌-◌, ◌<◌, ◌≤◌, T, ◌+ℤ◌, length};
 ghost use Rattle.std.specs.Int.{w64};
 ghost use Rattle.std.proofs.Common.{SFits};
@@ -22,14 +24,14 @@ use limits::PLACES;
 use words::{COEFFICIENT, COEFFICIENT_HEAD, payload, value, with_payload, with_value};
 
 // The sum of samples, and that of the first coefficients of blocks in eighths. 64 bits hold those of any sheet.
-#[derive(Drop)]
+#[derive(Clone, Copy)]
 pub struct Totals {
     pub samples: i64,
     pub firsts: i64,
 }
 
 // How far a sheet has come: the blocks that are done, and their sums.
-#[derive(Drop)]
+#[derive(Clone, Copy)]
 struct Progress {
     blocks: usize,
     totals: Totals,

@@ -1,5 +1,7 @@
 // The check of a sheet (01, "Sheets"): does it begin with a head of the right kind whose sizes are allowed, does it have as many words as they ask
 // for, and which of these is the first that has a fault? The format is a parameter, so that every kind of sheet can have the same check.
+#![tactic(auto)]
+
 ghost use Rattle.integers.specs.Kit.{◌≡◌, true, [], ◌∷◌, ◌<◌, ◌≤◌, length};
 ghost use Rattle.integers.specs.Search.{any};
 ghost use Rattle.limits.specs.Limits.{blocks_limit};
@@ -13,14 +15,14 @@ use limits::{BLOCKS_LIMIT, COEFFICIENT_LIMIT, HIGHEST_SAMPLE, LOWEST_SAMPLE, PLA
 use words::{COEFFICIENT, COEFFICIENT_HEAD, END, SAMPLE, SAMPLE_HEAD, kind, payload, value};
 
 // What the words of a sheet's body hold.
-#[derive(Drop)]
+#[derive(Clone, Copy)]
 pub enum Values {
     Samples,
     Coefficients,
 }
 
 // What the words of a sheet have to be.
-#[derive(Drop)]
+#[derive(Clone, Copy)]
 pub struct Format {
     // The kind of its head.
     pub head: u32,

@@ -1,6 +1,8 @@
 // The lowest and the highest float of a coefficient sheet, for the viewer (02, request 4).
 //
 // `sheet_range` takes any words. It looks at all of them before it answers: a refused sheet gives no float but plus zero, and names the first cause.
+#![tactic(auto)]
+
 ghost use Rattle.integers.specs.Kit.{◌≡◌, cond, ◌-◌};
 ghost use Rattle.std.specs.Float.Ieee.{lt};
 ghost use Rattle.limits.specs.Limits.{places};
@@ -19,14 +21,14 @@ use sheet_checks::{COEFFICIENT_FORMAT, check_sheet};
 use words::value;
 
 // The lowest and the highest of some floats.
-#[derive(Drop)]
+#[derive(Clone, Copy)]
 pub struct Range {
     pub lowest: f32,
     pub highest: f32,
 }
 
 // What `sheet_range` answers: why a sheet is refused or that it is accepted, and its range.
-#[derive(Drop)]
+#[derive(Clone, Copy)]
 pub struct RangeAnswer {
     pub answer: Answer,
     pub range: Range,
@@ -85,7 +87,7 @@ fn range_of_sheet(words: &[u32]) -> Range
 pub fn sheet_range(words: &[u32]) -> RangeAnswer
     ensures answer_value { returned result.answer ≡ job_returned (spec.range_job words.now) }
     ensures range_value { result.range ≡ job_left (spec.range_job words.now) }
-    ensures words_value { words.now ≡ words.now }
+    ensures words_value { words.exit.now ≡ words.entry.now }
 {
     let answer = check_sheet(COEFFICIENT_FORMAT, words);
     if number(answer) != 0 {

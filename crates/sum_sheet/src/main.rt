@@ -1,4 +1,6 @@
 // Reads a sheet of samples from standard input, and writes one line to standard output: its sums, or why it is refused.
+#![tactic(auto)]
+
 use sheet_bytes::{INPUT_LIMIT, LINE_LIMIT};
 use sum_bytes::convert;
 

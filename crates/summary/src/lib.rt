@@ -1,6 +1,8 @@
 // The job summary (02, request 4): a block in its mean grey and its largest other coefficient, for the viewer.
 //
 // It takes any numbers. An accepted call gives the grey of the block; a refused one gives plus zero, and names the first cause.
+#![tactic(auto)]
+
 ghost use Rattle.integers.specs.Kit.{◌≡◌, ◌≤◌, pos, nat_abs};
 ghost use Rattle.limits.specs.Limits.{coefficient_limit};
 ghost use Rattle.answers.specs.Answer.{returned};
@@ -15,7 +17,7 @@ use limits::PLACES;
 use to_floats::check;
 
 // A block for the viewer.
-#[derive(Drop)]
+#[derive(Clone, Copy)]
 pub enum Grey {
     // All coefficients but the first are 0: the mean grey.
     Flat(f32),
@@ -24,7 +26,7 @@ pub enum Grey {
 }
 
 // What summary answers: whether the block is accepted, and its grey, or plus zero as that of a refused one.
-#[derive(Drop)]
+#[derive(Clone, Copy)]
 pub struct BlockSummary {
     pub answer: Answer,
     pub grey: Grey,
@@ -89,7 +91,7 @@ fn grey_of(coefficients: &[i32]) -> Grey
 pub fn summary(coefficients: &[i32]) -> BlockSummary
     ensures answer_value { returned result.answer ≡ job_returned (spec.summary_job coefficients.now) }
     ensures grey_value { spec.given result.grey ≡ job_left (spec.summary_job coefficients.now) }
-    ensures coefficients_value { coefficients.now ≡ coefficients.now }
+    ensures coefficients_value { coefficients.exit.now ≡ coefficients.entry.now }
 {
     let answer = check(coefficients, PLACES);
     if number(answer) != 0 {

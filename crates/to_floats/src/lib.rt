@@ -1,6 +1,8 @@
 // The job to_floats (02, request 4): each coefficient of a block as a float, for the viewer.
 //
 // It takes any numbers and any buffers. An accepted call leaves 64 floats; a refused one leaves the buffer as it was, and names the first cause.
+#![tactic(auto)]
+
 ghost use Rattle.integers.specs.Kit.{◌≡◌, length};
 ghost use Rattle.limits.specs.Limits.{places};
 ghost use Rattle.answers.specs.Answer.{accept, answered, returned};
@@ -47,7 +49,7 @@ fn fill(coefficients: &[i32], floats: &mut [f32])
 pub fn to_floats(coefficients: &[i32], floats: &mut [f32]) -> Answer
     ensures result_value { returned result ≡ job_returned (to_floats_job coefficients.now floats.old) }
     ensures floats_after { floats.new ≡ job_left (to_floats_job coefficients.now floats.old) }
-    ensures coefficients_value { coefficients.now ≡ coefficients.now }
+    ensures coefficients_value { coefficients.exit.now ≡ coefficients.entry.now }
 {
     let answer = check(coefficients, floats.len());
     if number(answer) != 0 {

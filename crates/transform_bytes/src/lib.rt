@@ -2,6 +2,8 @@
 //
 // `convert` takes any bytes and looks at the first 32,780 of them, which is what the program reads. It is proved whole, the decimals of the
 // refusal included; the program only reads, calls it and writes.
+#![tactic(auto)]
+
 ghost use Rattle.integers.specs.Kit.{◌≡◌, ◌*◌, ◌≤◌, ◌<◌, length, take};
 ghost use Rattle.io.specs.Counts.{IsPrefixLen};
 ghost use Rattle.integers.specs.Table.{over};
@@ -44,7 +46,7 @@ pub fn convert(input: &[u8], output: &mut [u8; OUTPUT_LIMIT]) -> usize
     ensures value { result ≡ length (output_bytes (take input_limit input.now)) }
     ensures output_after { output.new ≡ over (output_bytes (take input_limit input.now)) output.old }
     ensures prefix_len { IsPrefixLen result output.new }
-    ensures input_value { input.now ≡ input.now }
+    ensures input_value { input.exit.now ≡ input.entry.now }
 {
     let mut made = [0u32; WORDS_LIMIT];
     let answered = transform_input(input, &mut made);

@@ -1,4 +1,6 @@
 // Reads a sheet of samples from standard input, and writes the sheet of its coefficients, or why it is refused, to standard output.
+#![tactic(auto)]
+
 use sheet_bytes::INPUT_LIMIT;
 use transform_bytes::{OUTPUT_LIMIT, convert};
 

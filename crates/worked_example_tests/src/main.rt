@@ -1,6 +1,8 @@
 // Runs 01's examples, as changed by 02, through forward, back, rounding and the sheet job, and some more calls of their kind, and prints what each
 // returns and leaves; the file stdout has what the papers say, or what follows from their rules. A line has the number and the place that the call
 // returns, of a sheet both sums, and then some numbers of its buffers, which held 7 before; words are in hexadecimal.
+#![tactic(auto)]
+
 ghost use Rattle.integers.specs.Kit.{◌<◌};
 
 use answers::Answer;

@@ -1,17 +1,14 @@
--- `value` meets its contract: the rank and the count of negative values fit an i32 as they stand, and so does their difference.
 use Rattle.integers.specs.Kit.{◌≡◌, ap₂, ◌∙◌, ℕ, lit<, pos, ◌-ℤ◌}
 use native.Mathlib.Nat.{lt_of_le_of_lt}
 use native.Mathlib.Omega.{arith}
 use mir.Syntax.{w32}
 use mir.Val.{SFits, to_z}
 use mir.ValLaws.{to_z_pos}
-use borrow.Author.Rules.{rules}
 use Rattle.integers.proofs.Signed.{in32, read_i32}
 use Rattle.integers.proofs.Magnitudes.{nat_abs_sub, small_fits}
 use Rattle.words.specs.Word.{payload}
 use Rattle.words.proofs.Packing.{payload-below, negatives, rank, value_ranked}
-use Rattle.words.proofs.value.Statement.{statement}
-use Rattle.words.proofs.value.Tie as tie
+use Rattle.words.proofs.value.Goals as goal
 
 module _ (p : ℕ) where
   read : to_z w32 (rank p) -ℤ to_z w32 negatives ≡ pos (rank p) -ℤ pos negatives
@@ -23,11 +20,5 @@ module _ (p : ℕ) where
   difference : in32 (to_z w32 (rank p) -ℤ to_z w32 negatives) ≡ pos (rank p) -ℤ pos negatives
   difference = read_i32 (to_z w32 (rank p) -ℤ to_z w32 negatives) fits ∙ read
 
-sub-result : tie.Need-overflow-sub-result
-sub-result c = fits (payload c.args.w)
-
-returns : tie.Need-returns
+pub returns : goal.returns
 returns c = let p = payload c.args.w in difference p ∙ value_ranked p (payload-below c.args.w)
-
-pub value_spec : {M : Type 1} → statement M
-value_spec = tie.close (tie.spec (λ c. search rules) (λ c. search rules) (λ c. search rules) sub-result returns)
