@@ -75,13 +75,13 @@ refuses : {c : Cause} {r : Returned} → Numbered c → Names c r → accepted r
 refuses k (fails {passes} {refusal} e) = ne_eqb refusal.number 0 (λ z. omega arith)
 refuses k (faulty-at {size} {faulty} {refusal} i h before e) = let l = k i e in ne_eqb (refusal i).number 0 (λ z. omega arith)
 
-each_passes : {end : Returned} {l : List Cause} {r : Returned} → Each Numbered l → Reason end l r → T (accepted r) → Each Passes l
-each_passes (k, more) (holds n) h = absurd (rw (refuses k n) at h)
-each_passes (k, more) (passes p R) h = (p, each_passes more R h)
-each_passes more none_holds h = tt
+each_passes : {end : Returned} {l : List Cause} {r : Returned} → Reason end l r → Each Numbered l → T (accepted r) → Each Passes l
+each_passes (holds n) (k, more) h = absurd (rw (refuses k n) at h)
+each_passes (passes p R) (k, more) h = (p, each_passes R more h)
+each_passes none_holds more h = tt
 
 pub accepted_means : (l : List Cause) (end : Returned) → Each Numbered l → T (accepted (answered l end)) → Each Passes l
-accepted_means l end k h = each_passes k (some_reason l end) h
+accepted_means l end k h = each_passes (some_reason l end) k h
 
 -- causes after other causes: a job that asks for some by a call
 

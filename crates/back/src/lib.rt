@@ -126,7 +126,7 @@ fn store(block: [i32; PLACES], samples: &mut [i32])
 pub fn back(elements: &[i32], samples: &mut [i32]) -> Answer
     ensures result_value { returned result ≡ job_returned (back_job 2 elements.now samples.old) }
     ensures samples_after { samples.new ≡ job_left (back_job 2 elements.now samples.old) }
-    ensures elements_value { elements.exit.now ≡ elements.entry.now }
+    ensures elements_kept { elements.exit.now ≡ elements.entry.now }
 {
     let found = check(elements, samples.len());
     let answer = found.answer;

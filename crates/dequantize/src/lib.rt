@@ -69,8 +69,8 @@ fn narrow(products: &[i64], coefficients: &mut [i32])
 pub fn dequantize(values: &[i32], steps: &[u32], coefficients: &mut [i32]) -> Answer
     ensures result_value { returned result ≡ job_returned (spec.dequantize_job values.now steps.now coefficients.old) }
     ensures coefficients_after { coefficients.new ≡ job_left (spec.dequantize_job values.now steps.now coefficients.old) }
-    ensures values_value { values.exit.now ≡ values.entry.now }
-    ensures steps_value { steps.exit.now ≡ steps.entry.now }
+    ensures values_kept { values.exit.now ≡ values.entry.now }
+    ensures steps_kept { steps.exit.now ≡ steps.entry.now }
 {
     let answer = check_steps(values.len(), steps, coefficients.len());
     if number(answer) != 0 {

@@ -33,7 +33,7 @@ fn check(samples: &[i32], room: usize) -> Answer
 pub fn forward(samples: &[i32], elements: &mut [i32]) -> Answer
     ensures result_value { returned result ≡ job_returned (forward_job 2 samples.now elements.old) }
     ensures elements_after { elements.new ≡ job_left (forward_job 2 samples.now elements.old) }
-    ensures samples_value { samples.exit.now ≡ samples.entry.now }
+    ensures samples_kept { samples.exit.now ≡ samples.entry.now }
 {
     let answer = check(samples, elements.len());
     if number(answer) != 0 {

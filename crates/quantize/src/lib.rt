@@ -69,8 +69,8 @@ fn fill(coefficients: &[i32], steps: &[u32], values: &mut [i32])
 pub fn quantize(coefficients: &[i32], steps: &[u32], values: &mut [i32]) -> Answer
     ensures result_value { returned result ≡ job_returned (spec.quantize_job coefficients.now steps.now values.old) }
     ensures values_after { values.new ≡ job_left (spec.quantize_job coefficients.now steps.now values.old) }
-    ensures coefficients_value { coefficients.exit.now ≡ coefficients.entry.now }
-    ensures steps_value { steps.exit.now ≡ steps.entry.now }
+    ensures coefficients_kept { coefficients.exit.now ≡ coefficients.entry.now }
+    ensures steps_kept { steps.exit.now ≡ steps.entry.now }
 {
     let answer = check(coefficients, steps, values.len());
     if number(answer) != 0 {

@@ -39,7 +39,7 @@ fn check(elements: &[i32], orientation: u32, room: usize) -> Answer
 pub fn reorient(elements: &[i32], orientation: u32, output: &mut [i32]) -> Answer
     ensures result_value { returned result ≡ job_returned (reorient_job elements.now orientation output.old) }
     ensures output_after { output.new ≡ job_left (reorient_job elements.now orientation output.old) }
-    ensures elements_value { elements.exit.now ≡ elements.entry.now }
+    ensures elements_kept { elements.exit.now ≡ elements.entry.now }
 {
     let answer = check(elements, orientation, output.len());
     if number(answer) != 0 {

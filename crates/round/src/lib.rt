@@ -40,7 +40,7 @@ pub fn round(elements: &[i32], b: u32, coefficients: &mut [i32]) -> Answer
     ensures result_value { returned result ≡ job_returned (round_job 2 elements.now b coefficients.old) }
     ensures coefficients_after { coefficients.new ≡ job_left (round_job 2 elements.now b coefficients.old) }
     ensures all_near { T (accepted (returned result)) → AllNear 2 elements.now b coefficients.new }
-    ensures elements_value { elements.exit.now ≡ elements.entry.now }
+    ensures elements_kept { elements.exit.now ≡ elements.entry.now }
 {
     let answer = check(elements, b, coefficients.len());
     if number(answer) != 0 {

@@ -64,7 +64,7 @@ pub fn sheet(words: &[u32], b: u32, scratch: &mut [i32], output: &mut [u32]) -> 
     ensures totals_value { result.totals ≡ (job_left (sheet_job element_scratch words.now b scratch.old output.old)).totals }
     ensures scratch_after { scratch.new ≡ (job_left (sheet_job element_scratch words.now b scratch.old output.old)).scratch }
     ensures output_after { output.new ≡ (job_left (sheet_job element_scratch words.now b scratch.old output.old)).output }
-    ensures words_value { words.exit.now ≡ words.entry.now }
+    ensures words_kept { words.exit.now ≡ words.entry.now }
 {
     let answer = check(words, b, COMPONENTS, scratch.len(), output.len());
     if number(answer) != 0 {

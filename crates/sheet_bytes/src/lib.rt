@@ -93,7 +93,7 @@ pub fn transform_input(input: &[u8], output: &mut [u32; WORDS_LIMIT]) -> SheetAn
     ensures answer_value { returned result.answer ≡ input_returned (take input_limit input.now) }
     ensures totals_value { result.totals ≡ by_input (sheet_totals program_width) no_totals (take input_limit input.now) }
     ensures output_after { output.new ≡ by_input (λ words. over (coefficient_sheet program_width words) output.old) output.old (take input_limit input.now) }
-    ensures input_value { input.exit.now ≡ input.entry.now }
+    ensures input_kept { input.exit.now ≡ input.entry.now }
 {
     let size = least(input.len(), INPUT_LIMIT);
     let count = size / 4;

@@ -87,7 +87,7 @@ fn range_of_sheet(words: &[u32]) -> Range
 pub fn sheet_range(words: &[u32]) -> RangeAnswer
     ensures answer_value { returned result.answer ≡ job_returned (spec.range_job words.now) }
     ensures range_value { result.range ≡ job_left (spec.range_job words.now) }
-    ensures words_value { words.exit.now ≡ words.entry.now }
+    ensures words_kept { words.exit.now ≡ words.entry.now }
 {
     let answer = check_sheet(COEFFICIENT_FORMAT, words);
     if number(answer) != 0 {

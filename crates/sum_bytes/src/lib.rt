@@ -33,7 +33,7 @@ pub fn convert(input: &[u8], output: &mut [u8; LINE_LIMIT]) -> usize
     ensures value { result ≡ length (sum_bytes (take input_limit input.now)) }
     ensures output_after { output.new ≡ over (sum_bytes (take input_limit input.now)) output.old }
     ensures prefix_len { IsPrefixLen result output.new }
-    ensures input_value { input.exit.now ≡ input.entry.now }
+    ensures input_kept { input.exit.now ≡ input.entry.now }
 {
     let mut made = [0u32; WORDS_LIMIT];
     let answered = transform_input(input, &mut made);

@@ -91,7 +91,7 @@ fn grey_of(coefficients: &[i32]) -> Grey
 pub fn summary(coefficients: &[i32]) -> BlockSummary
     ensures answer_value { returned result.answer ≡ job_returned (spec.summary_job coefficients.now) }
     ensures grey_value { spec.given result.grey ≡ job_left (spec.summary_job coefficients.now) }
-    ensures coefficients_value { coefficients.exit.now ≡ coefficients.entry.now }
+    ensures coefficients_kept { coefficients.exit.now ≡ coefficients.entry.now }
 {
     let answer = check(coefficients, PLACES);
     if number(answer) != 0 {

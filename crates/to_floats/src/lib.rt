@@ -49,7 +49,7 @@ fn fill(coefficients: &[i32], floats: &mut [f32])
 pub fn to_floats(coefficients: &[i32], floats: &mut [f32]) -> Answer
     ensures result_value { returned result ≡ job_returned (to_floats_job coefficients.now floats.old) }
     ensures floats_after { floats.new ≡ job_left (to_floats_job coefficients.now floats.old) }
-    ensures coefficients_value { coefficients.exit.now ≡ coefficients.entry.now }
+    ensures coefficients_kept { coefficients.exit.now ≡ coefficients.entry.now }
 {
     let answer = check(coefficients, floats.len());
     if number(answer) != 0 {

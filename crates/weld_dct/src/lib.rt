@@ -50,7 +50,7 @@ fn numbered(a: Answer) -> Returned
 pub extern "C" fn weld_dct_forward(samples: &[i32], elements: &mut [i32]) -> Returned
     ensures result_value { number_and_place result ≡ job_returned (forward_job 2 samples.now elements.old) }
     ensures elements_after { elements.new ≡ job_left (forward_job 2 samples.now elements.old) }
-    ensures samples_value { samples.exit.now ≡ samples.entry.now }
+    ensures samples_kept { samples.exit.now ≡ samples.entry.now }
 {
     numbered(forward::forward(samples, elements))
 }
@@ -60,7 +60,7 @@ pub extern "C" fn weld_dct_forward(samples: &[i32], elements: &mut [i32]) -> Ret
 pub extern "C" fn weld_dct_back(elements: &[i32], samples: &mut [i32]) -> Returned
     ensures result_value { number_and_place result ≡ job_returned (back_job 2 elements.now samples.old) }
     ensures samples_after { samples.new ≡ job_left (back_job 2 elements.now samples.old) }
-    ensures elements_value { elements.exit.now ≡ elements.entry.now }
+    ensures elements_kept { elements.exit.now ≡ elements.entry.now }
 {
     numbered(back::back(elements, samples))
 }
@@ -71,7 +71,7 @@ pub extern "C" fn weld_dct_round(elements: &[i32], b: u32, coefficients: &mut [i
     ensures result_value { number_and_place result ≡ job_returned (round_job 2 elements.now b coefficients.old) }
     ensures coefficients_after { coefficients.new ≡ job_left (round_job 2 elements.now b coefficients.old) }
     ensures all_near { T (accepted (number_and_place result)) → AllNear 2 elements.now b coefficients.new }
-    ensures elements_value { elements.exit.now ≡ elements.entry.now }
+    ensures elements_kept { elements.exit.now ≡ elements.entry.now }
 {
     numbered(round::round(elements, b, coefficients))
 }
@@ -98,7 +98,7 @@ pub extern "C" fn weld_dct_sheet(
     ensures firsts_value { result.firsts ≡ (job_left (sheet_job element_scratch words.now b scratch.old output.old)).totals.firsts }
     ensures scratch_after { scratch.new ≡ (job_left (sheet_job element_scratch words.now b scratch.old output.old)).scratch }
     ensures output_after { output.new ≡ (job_left (sheet_job element_scratch words.now b scratch.old output.old)).output }
-    ensures words_value { words.exit.now ≡ words.entry.now }
+    ensures words_kept { words.exit.now ≡ words.entry.now }
 {
     let answered = sheet::sheet(words, b, scratch, output);
     let answer = answered.answer;
@@ -118,7 +118,7 @@ pub extern "C" fn weld_dct_reorient(
 ) -> Returned
     ensures result_value { number_and_place result ≡ job_returned (reorient_job elements.now orientation output.old) }
     ensures output_after { output.new ≡ job_left (reorient_job elements.now orientation output.old) }
-    ensures elements_value { elements.exit.now ≡ elements.entry.now }
+    ensures elements_kept { elements.exit.now ≡ elements.entry.now }
 {
     numbered(reorient::reorient(elements, orientation, output))
 }
@@ -140,8 +140,8 @@ pub extern "C" fn weld_dct_quantize(
 ) -> Returned
     ensures result_value { number_and_place result ≡ job_returned (quantize_job coefficients.now steps.now quantized.old) }
     ensures quantized_after { quantized.new ≡ job_left (quantize_job coefficients.now steps.now quantized.old) }
-    ensures coefficients_value { coefficients.exit.now ≡ coefficients.entry.now }
-    ensures steps_value { steps.exit.now ≡ steps.entry.now }
+    ensures coefficients_kept { coefficients.exit.now ≡ coefficients.entry.now }
+    ensures steps_kept { steps.exit.now ≡ steps.entry.now }
 {
     numbered(quantize::quantize(coefficients, steps, quantized))
 }
@@ -155,8 +155,8 @@ pub extern "C" fn weld_dct_dequantize(
 ) -> Returned
     ensures result_value { number_and_place result ≡ job_returned (dequantize_job quantized.now steps.now coefficients.old) }
     ensures coefficients_after { coefficients.new ≡ job_left (dequantize_job quantized.now steps.now coefficients.old) }
-    ensures quantized_value { quantized.exit.now ≡ quantized.entry.now }
-    ensures steps_value { steps.exit.now ≡ steps.entry.now }
+    ensures quantized_kept { quantized.exit.now ≡ quantized.entry.now }
+    ensures steps_kept { steps.exit.now ≡ steps.entry.now }
 {
     numbered(dequantize::dequantize(quantized, steps, coefficients))
 }
@@ -166,7 +166,7 @@ pub extern "C" fn weld_dct_dequantize(
 pub extern "C" fn weld_dct_to_floats(coefficients: &[i32], floats: &mut [f32]) -> Returned
     ensures result_value { number_and_place result ≡ job_returned (to_floats_job coefficients.now floats.old) }
     ensures floats_after { floats.new ≡ job_left (to_floats_job coefficients.now floats.old) }
-    ensures coefficients_value { coefficients.exit.now ≡ coefficients.entry.now }
+    ensures coefficients_kept { coefficients.exit.now ≡ coefficients.entry.now }
 {
     numbered(to_floats::to_floats(coefficients, floats))
 }
@@ -186,7 +186,7 @@ pub struct SummaryReturned {
 pub extern "C" fn weld_dct_summary(coefficients: &[i32]) -> SummaryReturned
     ensures returned_value { number_and_place result.returned ≡ job_returned (summary_job coefficients.now) }
     ensures result_value { given_by result ≡ job_left (summary_job coefficients.now) }
-    ensures coefficients_value { coefficients.exit.now ≡ coefficients.entry.now }
+    ensures coefficients_kept { coefficients.exit.now ≡ coefficients.entry.now }
 {
     let summary = summary::summary(coefficients);
     let answer = summary.answer;
@@ -214,7 +214,7 @@ pub extern "C" fn weld_dct_sheet_range(words: &[u32]) -> RangeReturned
     ensures returned_value { number_and_place result.returned ≡ job_returned (range_job words.now) }
     ensures lowest_value { result.lowest ≡ (job_left (range_job words.now)).lowest }
     ensures highest_value { result.highest ≡ (job_left (range_job words.now)).highest }
-    ensures words_value { words.exit.now ≡ words.entry.now }
+    ensures words_kept { words.exit.now ≡ words.entry.now }
 {
     let ranged = sheet_range::sheet_range(words);
     let answer = ranged.answer;
