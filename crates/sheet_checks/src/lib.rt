@@ -162,7 +162,7 @@ fn end_refusal(w: u32, i: usize) -> Answer
 fn first_faulty(f: Format, n: usize, sheet: &[u32]) -> Answer
     requires n_value { n ≡ check.blocks sheet.now }
     requires in_bounds { 1 < length sheet.now }
-    requires sheet_value { any (length sheet.now) (check.faulty f sheet.now) ≡ true }
+    requires some_faulty { any (length sheet.now) (check.faulty f sheet.now) ≡ true }
     ensures { returned result ≡ answered (check.contents f sheet.now ∷ []) (accept_with (length sheet.now)) }
 {
     let last = sheet.len() - 1;

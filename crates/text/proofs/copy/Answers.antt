@@ -1,4 +1,5 @@
-use Rattle.integers.specs.Kit.{refl, sym, ap, ◌∙◌, ◌-◌, length, get_or}
+-- `copy` meets its contract: the loop writes the text byte by byte.
+use Rattle.integers.specs.Kit.{refl, sym, ap, ◌∙◌, length, get_or}
 use native.Mathlib.Omega.{arith}
 use Rattle.integers.specs.Table.{over}
 use Rattle.integers.proofs.Tables.{is_table}

@@ -1,3 +1,4 @@
+-- `put` meets its contract: the rest of the output is lent to `copy`.
 use Rattle.integers.specs.Kit.{◌-◌, length}
 use native.Mathlib.Omega.{arith}
 use Rattle.text.proofs.Lines.{lent}

@@ -1,3 +1,4 @@
+-- `put_signed` meets its contract: below zero a minus sign stands before the digits of the magnitude.
 use Rattle.integers.specs.Kit.{ap, ◌∙◌, [], ◌∷◌, ◌++◌, nat_abs}
 use Rattle.integers.proofs.Signed.{read_i64}
 use Rattle.text.specs.Decimal.{decimal, minus}

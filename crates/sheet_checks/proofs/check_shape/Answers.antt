@@ -1,14 +1,12 @@
 -- `check_shape` meets its contract: each way out is a law of causes.
 use Rattle.integers.specs.Kit.{◌≡◌, sym, ◌∙◌, List, ℕ, T, length}
-use borrow.Author.Rules.{rules}
 use borrow.Author.Tests.{eq-eqb, ne_eqb}
 use Rattle.answers.specs.Answer.{Returned, Reason, accept_with, answered, holds, fails, passes, none_holds}
 use Rattle.answers.proofs.Causes.{only_reason}
 use Rattle.sheet_checks.specs.declared.Format.{Format}
 use Rattle.sheet_checks.specs.Check.{shape, blocks, size_of, has_head, allowed_blocks}
 use Rattle.sheet_checks.proofs.Heads.{few_blocks, no_head, a_head}
-use Rattle.sheet_checks.proofs.check_shape.Statement.{statement}
-use Rattle.sheet_checks.proofs.check_shape.Tie as tie
+use Rattle.sheet_checks.proofs.check_shape.Goals as goal
 
 -- n is what `blocks_of` answers
 module _ (f : Format) (words : List ℕ) {n : ℕ} (b : n ≡ allowed_blocks f.head words) where
@@ -31,24 +29,16 @@ module _ (f : Format) (words : List ℕ) {n : ℕ} (b : n ≡ allowed_blocks f.h
     right : length words ≡ size_of n → accept_with (length words) ≡ answered (shape f words) (accept_with (length words))
     right c = ends (passes head (passes (rw (eq-eqb (length words) (size_of (blocks words)) (rw counted at c)) tt) none_holds))
 
-returns : tie.Need-returns
-returns c = let args = c.before.before.before.args in wrong_head args.f args.sheet.now c.before.blocks_of.ensures c.if1.true
+pub returns-then-n-eq0 : goal.returns-then-n-eq0
+returns-then-n-eq0 c = let args = c.args in wrong_head args.f args.sheet.now c.blocks_of-n.ensures c.if-n-eq0.true
 
-size-of-requires : tie.Need-size-of-requires
-size-of-requires c κs = let args = c.before.before.before.args in rw c.before.blocks_of.ensures (few_blocks args.f.head args.sheet.now)
+pub size_of-requires : goal.size_of-requires
+size_of-requires c = let args = c.args in rw c.blocks_of-n.ensures (few_blocks args.f.head args.sheet.now)
 
-returns-2 : tie.Need-returns-2
-returns-2 c =
-    let looked = c.before.before.before in
-    let args = looked.before.before.args in
-    wrong_count args.f args.sheet.now looked.blocks_of.ensures c.before.before.if1.false (λ e. c.if2.true (e ∙ sym c.before.size_of.ensures))
+pub returns-then-sheet-size_of : goal.returns-then-sheet-size_of
+returns-then-sheet-size_of c = let args = c.args in
+    wrong_count args.f args.sheet.now c.blocks_of-n.ensures c.if-n-eq0.false (λ e. c.if-sheet-size_of.true (e ∙ sym c.size_of.ensures))
 
-returns-3 : tie.Need-returns-3
-returns-3 c =
-    let looked = c.before.before.before in
-    let args = looked.before.before.args in
-    right args.f args.sheet.now looked.blocks_of.ensures c.before.before.if1.false (c.if2.false ∙ c.before.size_of.ensures)
-
-pub check_shape_spec : {M : Type 1} → statement M
-check_shape_spec =
-    tie.close (tie.spec (λ c κs. search rules) returns size-of-requires returns-2 returns-3)
+pub returns : goal.returns
+returns c = let args = c.args in
+    right args.f args.sheet.now c.blocks_of-n.ensures c.if-n-eq0.false (c.if-sheet-size_of.false ∙ c.size_of.ensures)
