@@ -68,7 +68,7 @@ module _ {x : List Element} where
 
 -- one part by itself
 
-module _ {x a : List Element} {k : ℕ} (A : Row 8 (λ n. part (item x n) k) a) where
+module _ (x : List Element) (k : ℕ) {a : List Element} (A : Row 8 (λ n. part (item x n) k) a) where
   part-product : (f : ℕ) → product a k f ≡ part_step x k f
   part-product f =
       ap (mul (cosine (pos k))) (step_cong factor (λ n. part (item a n) 0) (λ n. part (item x n) k) f (λ n l. ap (λ b. part b 0) (A.at n l)))
@@ -90,7 +90,7 @@ reordered : (a b c d : List ℤ) → add (add d a) (add c b) ≡ add (add (add a
 reordered a b c d =
     ap₂ add (add_comm d a) (add_comm c b) ∙ swap add add_comm add_assoc a d b c ∙ ap (add (add a b)) (add_comm d c) ∙ sym (add_assoc (add a b) c d)
 
-pub odd-parts : {x s t y z r : List Element} → OnlyComponents 4 odds x → {a b c d : List Element} → Row 8 (part_step x 1) a → Row 8 (part_step x 3) b → Row 8 (part_step x 5) c
+pub odd-parts : {x s t r : List Element} → OnlyComponents 4 odds x → {a b c d : List Element} → Row 8 (part_step x 1) a → Row 8 (part_step x 3) b → Row 8 (part_step x 5) c
     → Row 8 (part_step x 7) d → Row 8 (λ n. add (item d n) (item a n)) s → Row 8 (λ n. add (item c n) (item b n)) t → Row 8 (λ n. add (item s n) (item t n)) r
     → Row 8 (step (item x)) r
 unfolding sum

@@ -1,6 +1,6 @@
--- `integer_step_back` meets its contract: the row in its two halves. The argument x is `args.t1`.
+-- `integer_step_back` meets its contract: the row in its two halves.
 use Rattle.integer_step_back.proofs.Halves.{row_halves}
 use Rattle.integer_step_back.proofs.integer_step_back.Goals as goal
 
 pub returns : goal.returns
-returns c = row_halves c.args.t1 c.from_halves.ensures
+returns c = row_halves c.args.x c.from_halves.ensures
