@@ -93,6 +93,10 @@ at_most true true a b h =
 
 not_below : (x y : Float) → T (finite x) → T (finite y) → lt y x ≡ false → T (le x y)
 unfolding le lt eq
+not_below nan y p q h = elim p [ ]
+not_below (inf r) y p q h = elim p [ ]
+not_below (fin s m e) nan p q h = elim q [ ]
+not_below (fin s m e) (inf r) p q h = elim q [ ]
 not_below (fin s m e) (fin t n d) p q h = at_most s t (m * up e * down d) (n * up d * down e) h
 
 finite_value : (x : Float) (s : Bool) (a c : ℕ) → HasValue x s a c → T (finite x)

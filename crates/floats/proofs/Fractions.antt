@@ -3,7 +3,7 @@ use Rattle.integers.specs.Kit.{◌≡◌, refl, sym, ap, ◌∙◌, Bool, true, 
 use native.Mathlib.Nat.{le_of_lt, lt_of_le_of_lt, lt_of_lt_of_le, mul_assoc, mul_comm, one-mul, mul-pos}
 use native.Mathlib.Omega.{arith}
 use lib.Dec.{le→leb, lt→ltb}
-use lib.Ieee.{Float, nan, inf, fin, binary32, up, down, unlike, round, div, of_int, in_float, low, emax, prec}
+use lib.Ieee.{Float, nan, inf, fin, binary32, up, down, unlike, round, div, of_int, in_float as is_in_float, low, emax, prec}
 use lib.Ieee.Back.{round_whole}
 use lib.Ieee.Exact.{HasValue, round_exact}
 use lib.Ieee.Fits.{down_pos}
@@ -48,14 +48,14 @@ divided (fin t m e) s a k (p, q) =
     ∙ round_same binary32 s (m * up e * 1) (1 * 2 ^ k * down e) a (2 ^ k) (mul-pos (mul-pos (lit< tt) (pow_pos k)) (down_pos e)) (pow_pos k)
     (ap (λ z. z * 2 ^ k) q ∙ simp (mul_assoc, mul_comm, one-mul))
 
-in_float : (y : ℤ) → nat_abs y < exact_limit → T (in_float binary32 y)
-unfolding in_float
+in_float : (y : ℤ) → nat_abs y < exact_limit → T (is_in_float binary32 y)
+unfolding is_in_float
 in_float (pos n) l = le→leb n exact_limit (le_of_lt l)
 in_float (negsuc n) l = lt→ltb n exact_limit (le_of_lt l)
 
 -- what the code asks and makes, of a number within the limit that is read as z
 module _ {y z : ℤ} (h : nat_abs y ≤ coefficient_limit) (e : z ≡ y) where
-  pub cast_asks : T (in_float binary32 z)
+  pub cast_asks : T (is_in_float binary32 z)
   cast_asks = rw e (in_float y (few_digits y h))
 
   pub made : (k : ℕ) → div binary32 (of_int binary32 z) (fin false 1 (pos k)) ≡ fraction (2 ^ k) y

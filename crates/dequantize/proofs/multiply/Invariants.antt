@@ -1,0 +1,13 @@
+-- `multiply` meets its contract: the loop fills the products one by one, and asks of each whether it is beyond the limit.
+use Rattle.integers.specs.Kit.{◌-◌, pos}
+use Rattle.integers.proofs.Search.{Asked}
+use Rattle.integers.proofs.Tables.{Filled}
+use Rattle.limits.specs.Limits.{places}
+use Rattle.dequantize.specs.Dequantize.{dequantized_at, dequantized_beyond_at}
+use Rattle.dequantize.proofs.multiply.Given as goal
+
+abbrev pub invariant-loop-p : goal.invariant-loop-p
+invariant-loop-p l = Filled (pos 0) places (dequantized_at l.values l.steps) l.p l.products × Asked places (dequantized_beyond_at l.values l.steps) l.p l.r
+
+abbrev pub decreases-loop-p : goal.decreases-loop-p
+decreases-loop-p l = 64 - l.p
