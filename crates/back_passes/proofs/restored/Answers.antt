@@ -9,7 +9,6 @@ use Rattle.ring.specs.Element.{component}
 use Rattle.dct.specs.Inverse.{weighted}
 use Rattle.elements.specs.declared.Element.{Element}
 use Rattle.elements.specs.Buffer.{item, row}
-use Rattle.back_passes.specs.Passes.{Numbers}
 use Rattle.back_passes.proofs.Rows.{room-rows, restores}
 use Rattle.back_passes.proofs.restored.Goals as goal
 
@@ -24,34 +23,29 @@ Restored x = PartsStored 64 (λ n. n % 8) (λ n. restored_in x (n % 8) n)
 more : (x : List (List Element)) (j : ℕ) {us : List ℕ} {l m : List ℤ} → Restored x us l → PartStored (λ n. n % 8) j (restored_in x j) l m → Restored x (j ∷ us) m
 more x j R S = parts_more j R S (λ n h q. ap (λ (i : ℕ). restored_in x i n) (sym q))
 
--- the rows, from after every second column
-
-room : (c : goal.After-block-15-1) → Numbers c.rows_back-x.result
-room c = room-rows c.requires c.rows_back-x.ensures
-
 pub restore_column-requires-clause-numbers : goal.restore_column-requires-clause-numbers
-restore_column-requires-clause-numbers c = room c
+restore_column-requires-clause-numbers c = room-rows c.requires c.rows_back-x.ensures
 
 pub restore_column-requires-2-clause-numbers : goal.restore_column-requires-2-clause-numbers
-restore_column-requires-2-clause-numbers c = room c
+restore_column-requires-2-clause-numbers c = room-rows c.requires c.rows_back-x.ensures
 
 pub restore_column-requires-3-clause-numbers : goal.restore_column-requires-3-clause-numbers
-restore_column-requires-3-clause-numbers c = room c
+restore_column-requires-3-clause-numbers c = room-rows c.requires c.rows_back-x.ensures
 
 pub restore_column-requires-4-clause-numbers : goal.restore_column-requires-4-clause-numbers
-restore_column-requires-4-clause-numbers c = room c
+restore_column-requires-4-clause-numbers c = room-rows c.requires c.rows_back-x.ensures
 
 pub restore_column-requires-5-clause-numbers : goal.restore_column-requires-5-clause-numbers
-restore_column-requires-5-clause-numbers c = room c
+restore_column-requires-5-clause-numbers c = room-rows c.requires c.rows_back-x.ensures
 
 pub restore_column-requires-6-clause-numbers : goal.restore_column-requires-6-clause-numbers
-restore_column-requires-6-clause-numbers c = room c
+restore_column-requires-6-clause-numbers c = room-rows c.requires c.rows_back-x.ensures
 
 pub restore_column-requires-7-clause-numbers : goal.restore_column-requires-7-clause-numbers
-restore_column-requires-7-clause-numbers c = room c
+restore_column-requires-7-clause-numbers c = room-rows c.requires c.rows_back-x.ensures
 
 pub restore_column-requires-8-clause-numbers : goal.restore_column-requires-8-clause-numbers
-restore_column-requires-8-clause-numbers c = room c
+restore_column-requires-8-clause-numbers c = room-rows c.requires c.rows_back-x.ensures
 
 pub returns : goal.returns
 returns c =

@@ -1,24 +1,9 @@
 -- `odd_rows` meets its contract: a step, and three conjugates, each of the row before it.
 use Rattle.integers.specs.Kit.{refl, lit<}
 use Rattle.dct.specs.Rows.{odds}
-use Rattle.forward_passes.specs.Rows.{RowOf}
 use Rattle.forward_passes.proofs.Blocks.{spanned, asked_across, stepped_across, room_stepped, conjugated}
 use Rattle.forward_passes.proofs.Stores.{one-row, both}
 use Rattle.forward_passes.proofs.odd_rows.Goals as goal
-
--- each row
-
-row_1 : (c : goal.After-elements-4-1) → RowOf c.args.x 1 c.odds_step-e1.result
-row_1 c = stepped_across c.requires.columns 1 (lit< tt) c.across.ensures c.odds_step-e1.ensures
-
-row_5 : (c : goal.After-elements-4-1) → RowOf c.args.x 5 c.conjugate_row-e5.result
-row_5 c = conjugated c.requires.columns 5 (lit< tt) refl (row_1 c) c.conjugate_row-e5.ensures
-
-row_7 : (c : goal.After-elements-4-1) → RowOf c.args.x 7 c.conjugate_row-e7.result
-row_7 c = conjugated c.requires.columns 7 (lit< tt) refl (row_5 c) c.conjugate_row-e7.ensures
-
-row_3 : (c : goal.After-elements-4-1) → RowOf c.args.x 3 c.conjugate_row-e3.result
-row_3 c = conjugated c.requires.columns 3 (lit< tt) refl (row_7 c) c.conjugate_row-e3.ensures
 
 pub odds_step-e1-requires-clause-room : goal.odds_step-e1-requires-clause-room
 odds_step-e1-requires-clause-room c = (asked_across c.requires.columns 1 (lit< tt) c.across.ensures 3 odds spanned.3).0
@@ -27,16 +12,28 @@ pub odds_step-e1-requires-clause-only_components : goal.odds_step-e1-requires-cl
 odds_step-e1-requires-clause-only_components c = (asked_across c.requires.columns 1 (lit< tt) c.across.ensures 3 odds spanned.3).1
 
 pub conjugate_row-e5-requires : goal.conjugate_row-e5-requires
-conjugate_row-e5-requires c = room_stepped c.requires.columns 1 (lit< tt) (row_1 c)
+conjugate_row-e5-requires c =
+    let row_1 = stepped_across c.requires.columns 1 (lit< tt) c.across.ensures c.odds_step-e1.ensures in
+    room_stepped c.requires.columns 1 (lit< tt) row_1
 
 pub conjugate_row-e7-requires : goal.conjugate_row-e7-requires
-conjugate_row-e7-requires c = room_stepped c.requires.columns 5 (lit< tt) (row_5 c)
+conjugate_row-e7-requires c =
+    let row_1 = stepped_across c.requires.columns 1 (lit< tt) c.across.ensures c.odds_step-e1.ensures in
+    let row_5 = conjugated c.requires.columns 5 (lit< tt) refl row_1 c.conjugate_row-e5.ensures in
+    room_stepped c.requires.columns 5 (lit< tt) row_5
 
 pub conjugate_row-e3-requires : goal.conjugate_row-e3-requires
-conjugate_row-e3-requires c = room_stepped c.requires.columns 7 (lit< tt) (row_7 c)
+conjugate_row-e3-requires c =
+    let row_1 = stepped_across c.requires.columns 1 (lit< tt) c.across.ensures c.odds_step-e1.ensures in
+    let row_5 = conjugated c.requires.columns 5 (lit< tt) refl row_1 c.conjugate_row-e5.ensures in
+    let row_7 = conjugated c.requires.columns 7 (lit< tt) refl row_5 c.conjugate_row-e7.ensures in
+    room_stepped c.requires.columns 7 (lit< tt) row_7
 
--- s1, s5 and s7: after that row is stored; made: after all four rows are made
 pub returns : goal.returns
 returns c =
-    both (both (one-row (row_1 c) c.store_row.ensures) (one-row (row_5 c) c.store_row-2.ensures))
-    (both (one-row (row_7 c) c.store_row-3.ensures) (one-row (row_3 c) c.store_row-4.ensures))
+    let row_1 = stepped_across c.requires.columns 1 (lit< tt) c.across.ensures c.odds_step-e1.ensures in
+    let row_5 = conjugated c.requires.columns 5 (lit< tt) refl row_1 c.conjugate_row-e5.ensures in
+    let row_7 = conjugated c.requires.columns 7 (lit< tt) refl row_5 c.conjugate_row-e7.ensures in
+    let row_3 = conjugated c.requires.columns 3 (lit< tt) refl row_7 c.conjugate_row-e3.ensures in
+    both (both (one-row row_1 c.store_row.ensures) (one-row row_5 c.store_row-2.ensures))
+    (both (one-row row_7 c.store_row-3.ensures) (one-row row_3 c.store_row-4.ensures))

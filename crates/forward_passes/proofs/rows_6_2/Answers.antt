@@ -1,13 +1,9 @@
 -- `rows_6_2` meets its contract: a step, and its conjugate.
 use Rattle.integers.specs.Kit.{refl, lit<}
 use Rattle.dct.specs.Rows.{twos}
-use Rattle.forward_passes.specs.Rows.{RowOf}
 use Rattle.forward_passes.proofs.Blocks.{spanned, asked_across, stepped_across, room_stepped, conjugated}
 use Rattle.forward_passes.proofs.Stores.{one-row, both}
 use Rattle.forward_passes.proofs.rows_6_2.Goals as goal
-
-row_6 : (c : goal.After-elements-2-1) → RowOf c.args.x 6 c.twos_step-e6.result
-row_6 c = stepped_across c.requires.columns 6 (lit< tt) c.across.ensures c.twos_step-e6.ensures
 
 pub twos_step-e6-requires-clause-room : goal.twos_step-e6-requires-clause-room
 twos_step-e6-requires-clause-room c = (asked_across c.requires.columns 6 (lit< tt) c.across.ensures 1 twos spanned.2).0
@@ -16,9 +12,12 @@ pub twos_step-e6-requires-clause-only_components : goal.twos_step-e6-requires-cl
 twos_step-e6-requires-clause-only_components c = (asked_across c.requires.columns 6 (lit< tt) c.across.ensures 1 twos spanned.2).1
 
 pub conjugate_row-requires : goal.conjugate_row-requires
-conjugate_row-requires c = room_stepped c.requires.columns 6 (lit< tt) (row_6 c)
+conjugate_row-requires c =
+    let row_6 = stepped_across c.requires.columns 6 (lit< tt) c.across.ensures c.twos_step-e6.ensures in
+    room_stepped c.requires.columns 6 (lit< tt) row_6
 
 pub returns : goal.returns
 returns c =
-    let E = conjugated c.requires.columns 2 (lit< tt) refl (row_6 c) c.conjugate_row.ensures in
-    both (one-row (row_6 c) c.store_row.ensures) (one-row E c.store_row-2.ensures)
+    let row_6 = stepped_across c.requires.columns 6 (lit< tt) c.across.ensures c.twos_step-e6.ensures in
+    let E = conjugated c.requires.columns 2 (lit< tt) refl row_6 c.conjugate_row.ensures in
+    both (one-row row_6 c.store_row.ensures) (one-row E c.store_row-2.ensures)
