@@ -1,0 +1,16 @@
+-- `all_blocks` meets its contract: the loop does one block after the other.
+use Rattle.integers.specs.Kit.{◌-◌}
+use native.Mathlib.Omega.{arith}
+use Rattle.sheet_blocks.proofs.Loop.{reached_none, reached_more}
+use Rattle.sheet_blocks.proofs.all_blocks.Goals as goal
+
+pub loop-state-init : goal.loop-state-init
+loop-state-init c = reached_none c.requires
+
+pub loop-state-preserved : goal.loop-state-preserved
+loop-state-preserved c =
+    let reached = c.loop-state.invariant in
+    let made = c.next_block-state.ensures in
+    let kept = c.next_block-state.auto.scratch in
+    reached_more reached (omega (arith, reached.checked.right.valid_shape.count)) made.blocks_value kept.0 kept.1.0 made.agree_2 made.scratch_after
+    made.output_after

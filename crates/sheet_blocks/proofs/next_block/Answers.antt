@@ -1,0 +1,69 @@
+-- `next_block` meets its contract: the words of the block are written into the output where the blocks before it end, and both sums take it in.
+use Rattle.integers.specs.Kit.{◌≡◌, ap, ◌∙◌, List, ℕ, ◌+◌, ◌-◌, ◌*◌, ◌<◌, ℤ, ◌+ℤ◌, length, take, drop}
+use native.Mathlib.Omega.{arith}
+use borrow.Author.Rules.{rules}
+use Rattle.integers.specs.Table.{over, table}
+use Rattle.integers.proofs.Signed.{read_i32}
+use Rattle.limits.specs.Limits.{blocks_limit, places}
+use Rattle.blocks.specs.Blocks.{block_sum, elements_of}
+use Rattle.coefficients.specs.Coefficients.{coefficients_of}
+use Rattle.sheet_blocks.specs.Blocks.{block, block_coefficients, coefficient_word}
+use Rattle.sheet_blocks.proofs.Output.{block_written}
+use Rattle.sheet_blocks.proofs.Samples.{block_words, block_range}
+use Rattle.sheet_blocks.proofs.Sums.{agree_more, room}
+use Rattle.sheet_blocks.proofs.next_block.Goals as goal
+
+-- the coefficients of the samples x of block k
+of_block : (b : ℕ) (words : List ℕ) (k : ℕ) {x : List ℤ} → x ≡ block words k → coefficients_of 2 b (elements_of 2 x) ≡ block_coefficients b words k
+unfolding block_coefficients
+of_block b words k e = ap (λ x. coefficients_of 2 b (elements_of 2 x)) e
+
+pub convert_block-requires-clause-all_in_range : goal.convert_block-requires-clause-all_in_range
+convert_block-requires-clause-all_in_range c =
+    let checked = c.requires.checked in
+    let k = c.args.state.blocks in
+    let words = block_words checked k c.requires.blocks_bound in
+    rw c.block-samples.ensures (block_range checked k c.requires.blocks_bound)
+
+pub with_block-requires-clause-room : goal.with_block-requires-clause-room
+with_block-requires-clause-room c =
+    let checked = c.requires.checked in
+    let few : c.args.state.blocks < blocks_limit = omega (arith, c.requires.blocks_bound, checked.right.valid_shape.few_blocks) in
+    room c.requires.agree few
+
+pub with_block-requires-clause-all_in_range : goal.with_block-requires-clause-all_in_range
+with_block-requires-clause-all_in_range c =
+    let checked = c.requires.checked in
+    let few : c.args.state.blocks < blocks_limit = omega (arith, c.requires.blocks_bound, checked.right.valid_shape.few_blocks) in
+    rw c.block-samples.ensures (block_range checked c.args.state.blocks c.requires.blocks_bound)
+
+pub returns-clause-agree_2 : goal.returns-clause-agree_2
+returns-clause-agree_2 c =
+    let args = c.args in
+    let checked = c.requires.checked in
+    let k = args.state.blocks in
+    let words = block_words checked k c.requires.blocks_bound in
+    let samples = c.block-samples.ensures in
+    let rest = length args.output.now - (1 + places * k) in
+    let made = c.convert_block.ensures in
+    let is = ap (λ y. over (table places (coefficient_word y)) (take rest (drop (1 + places * k) args.output.now))) (of_block args.b args.words.now k samples) in
+    let left = block_written args.b args.words.now args.output.now k rest words (omega (arith, checked.output_size)) (omega (arith, checked.output_size)) (made.output_after ∙ is) in
+    let first = read_i32 c.value.result (search rules) ∙ c.value.ensures in
+    let sums = c.with_block.ensures in
+    agree_more c.requires.agree args.b (omega (arith, checked.output_size)) left
+            (sums.samples_value ∙ ap (λ x. args.state.totals.samples +ℤ block_sum x) samples) (sums.firsts_value ∙ ap (λ z. args.state.totals.firsts +ℤ z) first)
+
+pub returns-clause-output_after : goal.returns-clause-output_after
+returns-clause-output_after c =
+    let args = c.args in
+    let checked = c.requires.checked in
+    let k = args.state.blocks in
+    let words = block_words checked k c.requires.blocks_bound in
+    let samples = c.block-samples.ensures in
+    let rest = length args.output.now - (1 + places * k) in
+    let made = c.convert_block.ensures in
+    let is = ap (λ y. over (table places (coefficient_word y)) (take rest (drop (1 + places * k) args.output.now))) (of_block args.b args.words.now k samples) in
+    let left = block_written args.b args.words.now args.output.now k rest words (omega (arith, checked.output_size)) (omega (arith, checked.output_size)) (made.output_after ∙ is) in
+    let first = read_i32 c.value.result (search rules) ∙ c.value.ensures in
+    let sums = c.with_block.ensures in
+    left
