@@ -11,6 +11,6 @@ pub loop-state-preserved : goal.loop-state-preserved
 loop-state-preserved c =
     let reached = c.loop-state.invariant in
     let made = c.next_block-state.ensures in
-    let kept = c.next_block-state.auto.scratch in
-    reached_more reached (omega (arith, reached.checked.right.valid_shape.count)) made.blocks_value kept.0 kept.1.0 made.agree_2 made.scratch_after
+    reached_more reached (omega (arith, reached.checked.right.valid_shape.count)) made.blocks_value c.next_block-state.auto.scratch
+    c.next_block-state.auto.output made.agree_2 made.scratch_after
     made.output_after

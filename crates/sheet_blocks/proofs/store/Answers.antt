@@ -12,7 +12,7 @@ loop-i-init c = begun_none c.requires.places_in_bounds
 
 pub loop-i-preserved : goal.loop-i-preserved
 loop-i-preserved c =
-    let z = get_or c.args.t1 c.loop-i.i (pos 0) in
+    let z = get_or c.args.coefficients c.loop-i.i (pos 0) in
     let read = read_i32 z (search rules) in
     begun_more (omega arith) c.loop-i.invariant (c.with_value.ensures ∙ ap (λ z. word coefficient_kind (payload_of z)) read)
 
