@@ -1,0 +1,29 @@
+-- `range_of_sheet` meets its contract: the loop keeps the range of the blocks so far.
+use Rattle.integers.specs.Kit.{ap₂, ◌∙◌, ◌-◌, lit≤}
+use lib.Ieee.{lt}
+use Rattle.floats.proofs.Comparison.{in_order}
+use Rattle.sheet_range.proofs.Extremes.{by_lower, by_higher, both_digits, float_next, sheet-extreme}
+use Rattle.sheet_range.proofs.range_of_sheet.Goals as goal
+
+pub loop-i-preserved : goal.loop-i-preserved
+loop-i-preserved c =
+    let (low, high) = c.loop-i.invariant in
+    let more = c.loop-i-test.true in
+    let lowest = c.range_of_block-r.ensures.lowest_value in
+    let highest = c.range_of_block-r.ensures.highest_value in
+    let (l, m) = both_digits by_lower low more in
+    let (h, k) = both_digits by_higher high more in
+    rw (c.hull-r.ensures.lowest_value, c.hull-r.ensures.highest_value) (
+      float_next by_lower low more lowest (ap₂ lt lowest low.is ∙ in_order 3 _ _ (lit≤ tt) m l),
+      float_next by_higher high more highest (ap₂ lt high.is highest ∙ in_order 3 _ _ (lit≤ tt) h k),
+    )
+
+pub returns-clause-lowest_value : goal.returns-clause-lowest_value
+returns-clause-lowest_value c =
+    let (low, high) = c.loop-i.invariant in
+    sheet-extreme by_lower low c.loop-i-test.false
+
+pub returns-clause-highest_value : goal.returns-clause-highest_value
+returns-clause-highest_value c =
+    let (low, high) = c.loop-i.invariant in
+    sheet-extreme by_higher high c.loop-i-test.false
