@@ -7,7 +7,6 @@ use native.Mathlib.Omega.{arith}
 use lib.Ieee.{Float}
 use lib.Signed.{lt_z}
 use mir.Syntax.{w32}
-use mir.Val.{of_z, to_z}
 use Rattle.integers.proofs.Foremost as order
 use Rattle.integers.proofs.Foremost.{Order, irreflexive, not_before}
 use Rattle.integers.proofs.Signed.{in32, kept}
@@ -79,14 +78,14 @@ module _ {before : ℤ → ℤ → Bool} (O : Order before) where
 abbrev pub extreme : (ℤ → ℤ → Bool) → List ℕ → ℕ → ℕ → ℤ
 extreme before words = picked (pick before) (value_at words)
 
--- along a block: v holds the extreme of word a and of those behind it before word i, as an i32
+-- along a block: v is the extreme of word a and of those behind it before word i
 
-pub record BlockExtreme (before : ℤ → ℤ → Bool) (words : List ℕ) (a i v : ℕ) : Type 0 where
+pub record BlockExtreme (before : ℤ → ℤ → Bool) (words : List ℕ) (a i : ℕ) (v : ℤ) : Type 0 where
   pub body : InBody words a
   pub behind : ℕ
   pub here : i ≡ a + suc behind
   pub room : behind < places
-  pub is : to_z w32 v ≡ extreme before words a behind
+  pub is : v ≡ extreme before words a behind
 
 module _ {words : List ℕ} {a : ℕ} (B : InBody words a) where
   -- a sheet is short, so that indices fit
@@ -101,7 +100,7 @@ module _ {words : List ℕ} {a : ℕ} (B : InBody words a) where
   read : (i : ℕ) → a ≤ i → i < a + places → in32 (value_at words i) ≡ value_at words i
   read i h l = kept w32 (value_at words i) (lt_of_le_of_lt (at_most i h l) (lit< tt))
 
-  pub value-first : {before : ℤ → ℤ → Bool} {z : ℤ} → z ≡ value_at words a → BlockExtreme before words a (a + 1) (of_z w32 z)
+  pub value-first : {before : ℤ → ℤ → Bool} {z : ℤ} → z ≡ value_at words a → BlockExtreme before words a (a + 1) (in32 z)
   unfolding picked
   value-first e =
       record { body = B; behind = 0; here = omega arith; room = lit< tt; is = ap in32 e ∙ read a (omega arith) (omega arith) }
@@ -109,9 +108,9 @@ module _ {words : List ℕ} {a : ℕ} (B : InBody words a) where
   small : {before : ℤ → ℤ → Bool} → Order before → (n : ℕ) → n < places → nat_abs (extreme before words a n) ≤ coefficient_limit
   small O n h = picked_has O (value_at words) (λ z. nat_abs z ≤ coefficient_limit) a n (λ j g l. at_most j g (omega arith))
 
-module _ {before : ℤ → ℤ → Bool} (O : Order before) {words : List ℕ} {a i v : ℕ} (R : BlockExtreme before words a i v) where
+module _ {before : ℤ → ℤ → Bool} (O : Order before) {words : List ℕ} {a i : ℕ} {v : ℤ} (R : BlockExtreme before words a i v) where
   -- r is picked of it and of the value z of the next word
-  pub value_next : i < a + places → {z r : ℤ} → z ≡ value_at words i → r ≡ pick before (to_z w32 v) (in32 z) → BlockExtreme before words a (i + 1) (of_z w32 r)
+  pub value_next : i < a + places → {z r : ℤ} → z ≡ value_at words i → r ≡ pick before v (in32 z) → BlockExtreme before words a (i + 1) (in32 r)
   unfolding picked
   value_next m {z} e f =
       let n = suc R.behind in
@@ -125,11 +124,11 @@ module _ {before : ℤ → ℤ → Bool} (O : Order before) {words : List ℕ} {
         is = ap in32 (f ∙ ap₂ (pick before) R.is at) ∙ kept w32 _ (lt_of_le_of_lt (small R.body O n l) (lit< tt));
       }
 
-  pub value_small : nat_abs (to_z w32 v) ≤ coefficient_limit
+  pub value_small : nat_abs v ≤ coefficient_limit
   value_small = rw R.is (small R.body O R.behind R.room)
 
   -- past the block
-  pub block-extreme : a + places ≤ i → to_z w32 v ≡ extreme before words a (places - 1)
+  pub block-extreme : a + places ≤ i → v ≡ extreme before words a (places - 1)
   block-extreme e = let all : R.behind ≡ places - 1 = omega (arith, R.here, R.room) in rw all at R.is
 
 -- along the sheet: x is the float of the extreme of the first block and `more` others, before word i

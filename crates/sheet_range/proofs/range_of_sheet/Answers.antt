@@ -9,8 +9,8 @@ pub loop-i-preserved : goal.loop-i-preserved
 loop-i-preserved c =
     let (low, high) = c.loop-i.invariant in
     let more = c.loop-i-test.true in
-    let lowest = c.range_of_block-r.ensures.lowest_value in
-    let highest = c.range_of_block-r.ensures.highest_value in
+    let lowest = c.range_of_block.ensures.lowest_value in
+    let highest = c.range_of_block.ensures.highest_value in
     let (l, m) = both_digits by_lower low more in
     let (h, k) = both_digits by_higher high more in
     rw (c.hull-r.ensures.lowest_value, c.hull-r.ensures.highest_value) (
