@@ -1,10 +1,8 @@
 -- `byte_of` meets its contract: a shift by 8 bits for each byte that follows is a division by that power of 256.
 use Rattle.integers.specs.Kit.{◌≡◌, refl, ℕ, zero, suc, ◌-◌, ◌*◌, ◌/◌, ◌%◌, ◌^◌, ◌<◌}
 use native.Mathlib.Omega.{arith}
-use borrow.Author.Rules.{rules}
 use Rattle.transform_bytes.specs.Output.{byte_of}
-use Rattle.transform_bytes.proofs.byte_of.Statement.{statement}
-use Rattle.transform_bytes.proofs.byte_of.Tie as tie
+use Rattle.transform_bytes.proofs.byte_of.Goals as goal
 
 as_power : (w i : ℕ) → i < 4 → w / 2 ^ (24 - 8 * i) % 256 ≡ byte_of w i
 as_power w zero h = refl
@@ -13,8 +11,5 @@ as_power w (suc (suc zero)) h = refl
 as_power w (suc (suc (suc zero))) h = refl
 as_power w (suc (suc (suc (suc i)))) h = absurd (omega arith)
 
-returns : tie.Need-returns
+pub returns : goal.returns
 returns c = as_power c.args.w c.args.i c.requires
-
-pub byte_of_spec : {M : Type 1} → statement M
-byte_of_spec = tie.close (tie.spec (λ c. search rules) (λ c. search rules) (λ c. search rules) (λ c. search rules) (λ c. search rules) returns)
