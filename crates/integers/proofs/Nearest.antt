@@ -2,7 +2,9 @@
 -- shift does.
 use Rattle.integers.specs.Kit.{◌≡◌, refl, sym, ap, ap₂, ◌∙◌, ℕ, zero, suc, ◌+◌, ◌*◌, ◌-◌, ◌/◌, ◌≤◌, ◌<◌, ℤ, pos, negsuc, ◌+ℤ◌, ◌-ℤ◌, ◌*ℤ◌, neg_ℤ, nat_abs}
 use mathlib.Core.Logic.{◌↔◌}
-use native.Mathlib.Nat.{le_refl, lt_of_not-le, le_of_suc-le-suc, mul-le-mul_left, eq_of_mul-eq-mul_left, mul-div-le, lt-mul-div-succ, add-div_right, div-div-eq-div-mul, mul_assoc, mul-pos, mul-lt-mul_of_pos_left, zero-lt-suc}
+use native.Mathlib.Nat.{le_refl, lt_of_not-le, le_of_suc-le-suc, zero-lt-suc}
+use native.Mathlib.Nat.{mul_assoc, mul-pos, mul-le-mul_left, eq_of_mul-eq-mul_left, mul-lt-mul_of_pos_left}
+use native.Mathlib.Nat.{mul-div-le, lt-mul-div-succ, add-div_right, div-div-eq-div-mul}
 use native.Mathlib.Omega.{arith}
 use lib.Dec.{leb→le, ltb→lt}
 use lib.IntN.{neg_ℤ-neg_ℤ, -ℤ-+ℤ_cancel, pos-*ℤ-pos}

@@ -1,7 +1,6 @@
 // The limits of 01 and 02 as constants of the code; specs/ has the same as definitions. No other crate writes one of these numbers.
 #![tactic(auto)]
 
-
 // The places of a block of 8 by 8: its samples, its elements and its coefficients.
 pub const PLACES: usize = 64;
 

@@ -11,11 +11,10 @@ one_fits = record { sfits = lit< tt }
 pub multiple-requires-3-clause-sfits : goal.multiple-requires-3-clause-sfits
 multiple-requires-3-clause-sfits c = (term-room c.requires.room c.args.w2 c.ranges.w2 2 _ c.requires.w2_bound c.requires.p2_bound (lit≤ tt)).1
 
-pub multiple-requires-4-clause-within : goal.multiple-requires-4-clause-within
-multiple-requires-4-clause-within c = (term-room c.requires.room c.args.w1 c.ranges.w1 4 _ c.requires.w1_bound c.requires.p1_bound (lit≤ tt)).0
-
-pub multiple-requires-4-clause-sfits : goal.multiple-requires-4-clause-sfits
-multiple-requires-4-clause-sfits c = (term-room c.requires.room c.args.w1 c.ranges.w1 4 _ c.requires.w1_bound c.requires.p1_bound (lit≤ tt)).1
+pub multiple-requires-4 : goal.multiple-requires-4
+multiple-requires-4 c =
+    let all = term-room c.requires.room c.args.w1 c.ranges.w1 4 _ c.requires.w1_bound c.requires.p1_bound (lit≤ tt) in
+    record { within = all.0; sfits = all.1 }
 
 pub add_four-requires : goal.add_four-requires
 add_four-requires c =

@@ -9,26 +9,12 @@ returns-then-number-ne0-clause-elements_after c =
     let job = forward_job 2 c.args.samples.now c.args.elements.now in
     refused job c.check-answer.ensures c.number.ensures c.if-number-ne0.true
 
-pub transform-requires-clause-samples_len : goal.transform-requires-clause-samples_len
-transform-requires-clause-samples_len c =
+pub transform-requires : goal.transform-requires
+transform-requires c =
     let args = c.args in
     let job = forward_job 2 args.samples.now args.elements.now in
     let (s, t, range) = accepted_means 2 args.samples.now args.elements.now (is_accepted job c.check-answer.ensures c.number.ensures c.if-number-ne0.false) in
-    s
-
-pub transform-requires-clause-elements_len : goal.transform-requires-clause-elements_len
-transform-requires-clause-elements_len c =
-    let args = c.args in
-    let job = forward_job 2 args.samples.now args.elements.now in
-    let (s, t, range) = accepted_means 2 args.samples.now args.elements.now (is_accepted job c.check-answer.ensures c.number.ensures c.if-number-ne0.false) in
-    t
-
-pub transform-requires-clause-all_in_range : goal.transform-requires-clause-all_in_range
-transform-requires-clause-all_in_range c =
-    let args = c.args in
-    let job = forward_job 2 args.samples.now args.elements.now in
-    let (s, t, range) = accepted_means 2 args.samples.now args.elements.now (is_accepted job c.check-answer.ensures c.number.ensures c.if-number-ne0.false) in
-    range
+    record { samples_len = s; elements_len = t; all_in_range = range }
 
 pub returns-clause-elements_after : goal.returns-clause-elements_after
 returns-clause-elements_after c =

@@ -5,11 +5,10 @@ use Rattle.forward_passes.proofs.Blocks.{spanned, asked_across, stepped_across, 
 use Rattle.forward_passes.proofs.Stores.{one-row, both}
 use Rattle.forward_passes.proofs.odd_rows.Goals as goal
 
-pub odds_step-e1-requires-clause-room : goal.odds_step-e1-requires-clause-room
-odds_step-e1-requires-clause-room c = (asked_across c.requires.columns 1 (lit< tt) c.across.ensures 3 odds spanned.3).0
-
-pub odds_step-e1-requires-clause-only_components : goal.odds_step-e1-requires-clause-only_components
-odds_step-e1-requires-clause-only_components c = (asked_across c.requires.columns 1 (lit< tt) c.across.ensures 3 odds spanned.3).1
+pub odds_step-e1-requires : goal.odds_step-e1-requires
+odds_step-e1-requires c =
+    let all = asked_across c.requires.columns 1 (lit< tt) c.across.ensures 3 odds spanned.3 in
+    record { room = all.0; only_components = all.1 }
 
 pub conjugate_row-e5-requires : goal.conjugate_row-e5-requires
 conjugate_row-e5-requires c =

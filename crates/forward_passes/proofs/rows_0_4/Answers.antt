@@ -5,17 +5,15 @@ use Rattle.forward_passes.proofs.Blocks.{spanned, asked_across, stepped_across}
 use Rattle.forward_passes.proofs.Stores.{one-row, both}
 use Rattle.forward_passes.proofs.rows_0_4.Goals as goal
 
-pub fours_step-requires-clause-room : goal.fours_step-requires-clause-room
-fours_step-requires-clause-room c = (asked_across c.requires.columns 0 (lit< tt) c.across.ensures 0 fours spanned.0).0
+pub fours_step-requires : goal.fours_step-requires
+fours_step-requires c =
+    let all = asked_across c.requires.columns 0 (lit< tt) c.across.ensures 0 fours spanned.0 in
+    record { room = all.0; only_components = all.1 }
 
-pub fours_step-requires-clause-only_components : goal.fours_step-requires-clause-only_components
-fours_step-requires-clause-only_components c = (asked_across c.requires.columns 0 (lit< tt) c.across.ensures 0 fours spanned.0).1
-
-pub fours_step-requires-2-clause-room : goal.fours_step-requires-2-clause-room
-fours_step-requires-2-clause-room c = (asked_across c.requires.columns 4 (lit< tt) c.across-2.ensures 0 fours spanned.1).0
-
-pub fours_step-requires-2-clause-only_components : goal.fours_step-requires-2-clause-only_components
-fours_step-requires-2-clause-only_components c = (asked_across c.requires.columns 4 (lit< tt) c.across-2.ensures 0 fours spanned.1).1
+pub fours_step-requires-2 : goal.fours_step-requires-2
+fours_step-requires-2 c =
+    let all = asked_across c.requires.columns 4 (lit< tt) c.across-2.ensures 0 fours spanned.1 in
+    record { room = all.0; only_components = all.1 }
 
 pub returns : goal.returns
 returns c =

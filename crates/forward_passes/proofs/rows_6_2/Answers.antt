@@ -5,11 +5,10 @@ use Rattle.forward_passes.proofs.Blocks.{spanned, asked_across, stepped_across, 
 use Rattle.forward_passes.proofs.Stores.{one-row, both}
 use Rattle.forward_passes.proofs.rows_6_2.Goals as goal
 
-pub twos_step-e6-requires-clause-room : goal.twos_step-e6-requires-clause-room
-twos_step-e6-requires-clause-room c = (asked_across c.requires.columns 6 (lit< tt) c.across.ensures 1 twos spanned.2).0
-
-pub twos_step-e6-requires-clause-only_components : goal.twos_step-e6-requires-clause-only_components
-twos_step-e6-requires-clause-only_components c = (asked_across c.requires.columns 6 (lit< tt) c.across.ensures 1 twos spanned.2).1
+pub twos_step-e6-requires : goal.twos_step-e6-requires
+twos_step-e6-requires c =
+    let all = asked_across c.requires.columns 6 (lit< tt) c.across.ensures 1 twos spanned.2 in
+    record { room = all.0; only_components = all.1 }
 
 pub conjugate_row-requires : goal.conjugate_row-requires
 conjugate_row-requires c =

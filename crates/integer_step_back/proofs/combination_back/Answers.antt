@@ -4,38 +4,16 @@ use Rattle.elements.proofs.Bounds.{within_le}
 use Rattle.integer_step_back.proofs.Halves.{within_term}
 use Rattle.integer_step_back.proofs.combination_back.Goals as goal
 
-pub add_four-requires-clause-within : goal.add_four-requires-clause-within
-add_four-requires-clause-within c =
+pub add_four-requires : goal.add_four-requires
+add_four-requires c =
     let room = c.requires.room in
     let h = c.requires.nonzero in
     let l = c.requires.nonzero_2 in
     let m = c.requires.nonzero_3 in
     let n = c.requires.nonzero_4 in
-    rw c.along.ensures (within_term room 0 (lit< tt) _ h)
-
-pub add_four-requires-clause-within_2 : goal.add_four-requires-clause-within_2
-add_four-requires-clause-within_2 c =
-    let room = c.requires.room in
-    let h = c.requires.nonzero in
-    let l = c.requires.nonzero_2 in
-    let m = c.requires.nonzero_3 in
-    let n = c.requires.nonzero_4 in
-    rw c.along-2.ensures (within_term room 1 (lit< tt) _ l)
-
-pub add_four-requires-clause-within_3 : goal.add_four-requires-clause-within_3
-add_four-requires-clause-within_3 c =
-    let room = c.requires.room in
-    let h = c.requires.nonzero in
-    let l = c.requires.nonzero_2 in
-    let m = c.requires.nonzero_3 in
-    let n = c.requires.nonzero_4 in
-    rw c.along-3.ensures (within_le (lit≤ tt) (within_term room 2 (lit< tt) _ m))
-
-pub add_four-requires-clause-within_4 : goal.add_four-requires-clause-within_4
-add_four-requires-clause-within_4 c =
-    let room = c.requires.room in
-    let h = c.requires.nonzero in
-    let l = c.requires.nonzero_2 in
-    let m = c.requires.nonzero_3 in
-    let n = c.requires.nonzero_4 in
-    rw c.along-4.ensures (within_le (lit≤ tt) (within_term room 3 (lit< tt) _ n))
+    record {
+      within = rw c.along.ensures (within_term room 0 (lit< tt) _ h);
+      within_2 = rw c.along-2.ensures (within_term room 1 (lit< tt) _ l);
+      within_3 = rw c.along-3.ensures (within_le (lit≤ tt) (within_term room 2 (lit< tt) _ m));
+      within_4 = rw c.along-4.ensures (within_le (lit≤ tt) (within_term room 3 (lit< tt) _ n));
+    }

@@ -1,5 +1,6 @@
 -- `sheet` meets its contract: the check decides, and past it the sheet is converted.
-use Rattle.integers.specs.Kit.{◌≡◌, ap, ◌∙◌, List, ℕ, ℤ}
+use borrow.Author.Rules.{rules}
+use Rattle.integers.specs.Kit.{refl, ◌≡◌, ap, ◌∙◌, List, ℕ, ℤ}
 use Rattle.answers.proofs.Jobs.{refused, is_accepted, done}
 use Rattle.sheet_checks.specs.Check.{blocks}
 use Rattle.sheet_blocks.specs.declared.Totals.{Totals}
@@ -18,29 +19,19 @@ left_is : {s t : List ℤ} {o p : List ℕ} {u v : Totals} → s ≡ t → o ≡
     → ◌≡◌ {A = Left} (record { scratch = s; output = o; totals = u }) (record { scratch = t; output = p; totals = v })
 left_is e f g = rw (e, f, g)
 
-pub returns-then-number-ne0-clause-totals_value : goal.returns-then-number-ne0-clause-totals_value
-returns-then-number-ne0-clause-totals_value c =
+pub returns-then-number-ne0 : goal.returns-then-number-ne0
+returns-then-number-ne0 c =
     let args = c.args in
     let job = sheet_job element_scratch args.words.now args.b args.scratch.now args.output.now in
     let made = c.refused.ensures in
     let left = refused job c.check-answer.ensures c.number.ensures c.if-number-ne0.true in
-    made.totals_value ∙ ap (λ (l : Left). l.totals) left
-
-pub returns-then-number-ne0-clause-scratch_after : goal.returns-then-number-ne0-clause-scratch_after
-returns-then-number-ne0-clause-scratch_after c =
-    let args = c.args in
-    let job = sheet_job element_scratch args.words.now args.b args.scratch.now args.output.now in
-    let made = c.refused.ensures in
-    let left = refused job c.check-answer.ensures c.number.ensures c.if-number-ne0.true in
-    ap (λ (l : Left). l.scratch) left
-
-pub returns-then-number-ne0-clause-output_after : goal.returns-then-number-ne0-clause-output_after
-returns-then-number-ne0-clause-output_after c =
-    let args = c.args in
-    let job = sheet_job element_scratch args.words.now args.b args.scratch.now args.output.now in
-    let made = c.refused.ensures in
-    let left = refused job c.check-answer.ensures c.number.ensures c.if-number-ne0.true in
-    ap (λ (l : Left). l.output) left
+    record {
+      answer_value = search rules;
+      totals_value = made.totals_value ∙ ap (λ (l : Left). l.totals) left;
+      scratch_after = ap (λ (l : Left). l.scratch) left;
+      output_after = ap (λ (l : Left). l.output) left;
+      words_kept = refl;
+    }
 
 pub convert-totals-requires : goal.convert-totals-requires
 convert-totals-requires c =
@@ -49,26 +40,16 @@ convert-totals-requires c =
     accepted_checked element_scratch args.words.now args.b args.scratch.now args.output.now
     (is_accepted job c.check-answer.ensures c.number.ensures c.if-number-ne0.false)
 
-pub returns-clause-totals_value : goal.returns-clause-totals_value
-returns-clause-totals_value c =
+pub returns : goal.returns
+returns c =
     let args = c.args in
     let job = sheet_job element_scratch args.words.now args.b args.scratch.now args.output.now in
     let made = c.convert-totals.ensures in
     let left = done job c.check-answer.ensures c.number.ensures c.if-number-ne0.false (left_is made.scratch_after made.output_after (totals_are args.b made.agree)) in
-    ap (λ (l : Left). l.totals) left
-
-pub returns-clause-scratch_after : goal.returns-clause-scratch_after
-returns-clause-scratch_after c =
-    let args = c.args in
-    let job = sheet_job element_scratch args.words.now args.b args.scratch.now args.output.now in
-    let made = c.convert-totals.ensures in
-    let left = done job c.check-answer.ensures c.number.ensures c.if-number-ne0.false (left_is made.scratch_after made.output_after (totals_are args.b made.agree)) in
-    ap (λ (l : Left). l.scratch) left
-
-pub returns-clause-output_after : goal.returns-clause-output_after
-returns-clause-output_after c =
-    let args = c.args in
-    let job = sheet_job element_scratch args.words.now args.b args.scratch.now args.output.now in
-    let made = c.convert-totals.ensures in
-    let left = done job c.check-answer.ensures c.number.ensures c.if-number-ne0.false (left_is made.scratch_after made.output_after (totals_are args.b made.agree)) in
-    ap (λ (l : Left). l.output) left
+    record {
+      answer_value = search rules;
+      totals_value = ap (λ (l : Left). l.totals) left;
+      scratch_after = ap (λ (l : Left). l.scratch) left;
+      output_after = ap (λ (l : Left). l.output) left;
+      words_kept = refl;
+    }

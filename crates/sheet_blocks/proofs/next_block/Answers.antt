@@ -25,20 +25,17 @@ convert_block-requires-clause-all_in_range c =
     let words = block_words checked k c.requires.blocks_bound in
     rw c.block-samples.ensures (block_range checked k c.requires.blocks_bound)
 
-pub with_block-requires-clause-room : goal.with_block-requires-clause-room
-with_block-requires-clause-room c =
+pub with_block-requires : goal.with_block-requires
+with_block-requires c =
     let checked = c.requires.checked in
     let few : c.args.state.blocks < blocks_limit = omega (arith, c.requires.blocks_bound, checked.right.valid_shape.few_blocks) in
-    room c.requires.agree few
+    record {
+      room = room c.requires.agree few;
+      all_in_range = rw c.block-samples.ensures (block_range checked c.args.state.blocks c.requires.blocks_bound);
+    }
 
-pub with_block-requires-clause-all_in_range : goal.with_block-requires-clause-all_in_range
-with_block-requires-clause-all_in_range c =
-    let checked = c.requires.checked in
-    let few : c.args.state.blocks < blocks_limit = omega (arith, c.requires.blocks_bound, checked.right.valid_shape.few_blocks) in
-    rw c.block-samples.ensures (block_range checked c.args.state.blocks c.requires.blocks_bound)
-
-pub returns-clause-agree_2 : goal.returns-clause-agree_2
-returns-clause-agree_2 c =
+pub returns : goal.returns
+returns c =
     let args = c.args in
     let checked = c.requires.checked in
     let k = args.state.blocks in
@@ -50,20 +47,10 @@ returns-clause-agree_2 c =
     let left = block_written args.b args.words.now args.output.now k rest words (omega (arith, checked.output_size)) (omega (arith, checked.output_size)) (made.output_after ∙ is) in
     let first = read_i32 c.value.result (search rules) ∙ c.value.ensures in
     let sums = c.with_block.ensures in
-    agree_more c.requires.agree args.b (omega (arith, checked.output_size)) left
-            (sums.samples_value ∙ ap (λ x. args.state.totals.samples +ℤ block_sum x) samples) (sums.firsts_value ∙ ap (λ z. args.state.totals.firsts +ℤ z) first)
-
-pub returns-clause-output_after : goal.returns-clause-output_after
-returns-clause-output_after c =
-    let args = c.args in
-    let checked = c.requires.checked in
-    let k = args.state.blocks in
-    let words = block_words checked k c.requires.blocks_bound in
-    let samples = c.block-samples.ensures in
-    let rest = length args.output.now - (1 + places * k) in
-    let made = c.convert_block.ensures in
-    let is = ap (λ y. over (table places (coefficient_word y)) (take rest (drop (1 + places * k) args.output.now))) (of_block args.b args.words.now k samples) in
-    let left = block_written args.b args.words.now args.output.now k rest words (omega (arith, checked.output_size)) (omega (arith, checked.output_size)) (made.output_after ∙ is) in
-    let first = read_i32 c.value.result (search rules) ∙ c.value.ensures in
-    let sums = c.with_block.ensures in
-    left
+    record {
+      blocks_value = search rules;
+      agree_2 = agree_more c.requires.agree args.b (omega (arith, checked.output_size)) left
+          (sums.samples_value ∙ ap (λ x. args.state.totals.samples +ℤ block_sum x) samples) (sums.firsts_value ∙ ap (λ z. args.state.totals.firsts +ℤ z) first);
+      scratch_after = search rules;
+      output_after = left;
+    }

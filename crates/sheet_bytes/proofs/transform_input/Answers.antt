@@ -1,52 +1,22 @@
 -- `transform_input` meets its contract: bytes over are refused, and whole words go to the sheet job.
-use Rattle.integers.specs.Kit.{ap, replicate}
+use Rattle.integers.specs.Kit.{refl, ap, replicate}
 use native.Mathlib.Omega.{arith}
 use borrow.Author.Rules.{rules}
 use Rattle.answers.specs.Answer.{returned}
 use Rattle.sheet_bytes.proofs.Inputs.{bytes_over, whole_words}
 use Rattle.sheet_bytes.proofs.transform_input.Goals as goal
 
-pub returns-then-size-ne0-clause-answer_value : goal.returns-then-size-ne0-clause-answer_value
-returns-then-size-ne0-clause-answer_value c =
+pub returns-then-size-ne0 : goal.returns-then-size-ne0
+returns-then-size-ne0 c =
     let args = c.args in
     let refused = c.refused.ensures in
     let (a, (t, l)) = bytes_over args.input.now c.least-size.ensures args.output.now (λ z. c.if-size-ne0.true (omega arith)) (ap returned refused.answer_value) refused.totals_value in
-    a
+    record { answer_value = a; totals_value = t; output_after = l; input_kept = refl }
 
-pub returns-then-size-ne0-clause-totals_value : goal.returns-then-size-ne0-clause-totals_value
-returns-then-size-ne0-clause-totals_value c =
-    let args = c.args in
-    let refused = c.refused.ensures in
-    let (a, (t, l)) = bytes_over args.input.now c.least-size.ensures args.output.now (λ z. c.if-size-ne0.true (omega arith)) (ap returned refused.answer_value) refused.totals_value in
-    t
-
-pub returns-then-size-ne0-clause-output_after : goal.returns-then-size-ne0-clause-output_after
-returns-then-size-ne0-clause-output_after c =
-    let args = c.args in
-    let refused = c.refused.ensures in
-    let (a, (t, l)) = bytes_over args.input.now c.least-size.ensures args.output.now (λ z. c.if-size-ne0.true (omega arith)) (ap returned refused.answer_value) refused.totals_value in
-    l
-
-pub returns-clause-answer_value : goal.returns-clause-answer_value
-returns-clause-answer_value c =
+pub returns : goal.returns
+returns c =
     let args = c.args in
     let promised = c.sheet.ensures in
     let (a, (t, l)) = whole_words args.input.now c.least-size.ensures c.load.new.words (replicate 8195 0) c.load.ensures args.output.now (search rules)
     c.if-size-ne0.false promised.answer_value promised.totals_value promised.output_after in
-    a
-
-pub returns-clause-totals_value : goal.returns-clause-totals_value
-returns-clause-totals_value c =
-    let args = c.args in
-    let promised = c.sheet.ensures in
-    let (a, (t, l)) = whole_words args.input.now c.least-size.ensures c.load.new.words (replicate 8195 0) c.load.ensures args.output.now (search rules)
-    c.if-size-ne0.false promised.answer_value promised.totals_value promised.output_after in
-    t
-
-pub returns-clause-output_after : goal.returns-clause-output_after
-returns-clause-output_after c =
-    let args = c.args in
-    let promised = c.sheet.ensures in
-    let (a, (t, l)) = whole_words args.input.now c.least-size.ensures c.load.new.words (replicate 8195 0) c.load.ensures args.output.now (search rules)
-    c.if-size-ne0.false promised.answer_value promised.totals_value promised.output_after in
-    l
+    record { answer_value = a; totals_value = t; output_after = l; input_kept = refl }

@@ -1,3 +1,4 @@
+-- `any_faulty` meets its contract: the loop asks one word of the body more each time, and then the end word is asked.
 use Rattle.integers.specs.Kit.{◌-◌, ◌≤◌, ◌<◌, length}
 use Rattle.integers.proofs.Search.{Asked}
 use Rattle.sheet_checks.specs.Check.{faulty}

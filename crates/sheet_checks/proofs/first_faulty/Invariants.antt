@@ -1,3 +1,4 @@
+-- `first_faulty` meets its contract: the loop passes every word of the body that has no fault, and then the end word has one.
 use Rattle.integers.specs.Kit.{◌-◌, ◌≤◌, ◌<◌, length}
 use Rattle.integers.proofs.Search.{NoneBelow}
 use Rattle.sheet_checks.specs.Check.{faulty}

@@ -23,12 +23,10 @@ coefficient_float-requires c = value_small by_lower c.loop-i.invariant.0
 pub coefficient_float-requires-2 : goal.coefficient_float-requires-2
 coefficient_float-requires-2 c = value_small by_higher c.loop-i.invariant.1
 
-pub returns-clause-lowest_value : goal.returns-clause-lowest_value
-returns-clause-lowest_value c =
+pub returns : goal.returns
+returns c =
     let (low, high) = c.loop-i.invariant in
-    c.coefficient_float.ensures ∙ ap coefficient_float (block-extreme by_lower low c.loop-i-test.false)
-
-pub returns-clause-highest_value : goal.returns-clause-highest_value
-returns-clause-highest_value c =
-    let (low, high) = c.loop-i.invariant in
-    c.coefficient_float-2.ensures ∙ ap coefficient_float (block-extreme by_higher high c.loop-i-test.false)
+    record {
+      lowest_value = c.coefficient_float.ensures ∙ ap coefficient_float (block-extreme by_lower low c.loop-i-test.false);
+      highest_value = c.coefficient_float-2.ensures ∙ ap coefficient_float (block-extreme by_higher high c.loop-i-test.false);
+    }

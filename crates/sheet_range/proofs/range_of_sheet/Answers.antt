@@ -18,12 +18,7 @@ loop-i-preserved c =
       float_next by_higher high more highest (ap₂ lt high.is highest ∙ in_order 3 _ _ (lit≤ tt) h k),
     )
 
-pub returns-clause-lowest_value : goal.returns-clause-lowest_value
-returns-clause-lowest_value c =
+pub returns : goal.returns
+returns c =
     let (low, high) = c.loop-i.invariant in
-    sheet-extreme by_lower low c.loop-i-test.false
-
-pub returns-clause-highest_value : goal.returns-clause-highest_value
-returns-clause-highest_value c =
-    let (low, high) = c.loop-i.invariant in
-    sheet-extreme by_higher high c.loop-i-test.false
+    record { lowest_value = sheet-extreme by_lower low c.loop-i-test.false; highest_value = sheet-extreme by_higher high c.loop-i-test.false }

@@ -7,18 +7,11 @@ use Rattle.text.proofs.Lines.{same-part, together, whole}
 use Rattle.sum_bytes.specs.Output.{sum_line}
 use Rattle.sum_bytes.proofs.line.Goals as goal
 
-pub returns-clause-value : goal.returns-clause-value
+pub returns : goal.returns
 unfolding sum_line
-returns-clause-value c =
+returns c =
     let totals = c.args.totals in
     let first = same-part (ap signed_decimal (read_i64 totals.samples (search rules))) c.put_signed-at.ensures.appended in
     let second = same-part (ap signed_decimal (read_i64 totals.firsts (search rules))) c.put_signed-at-2.ensures.appended in
-    (whole (together c.put-at.ensures (together first (together c.put-at-2.ensures (together second c.put.ensures))))).0
-
-pub returns-clause-output_after : goal.returns-clause-output_after
-unfolding sum_line
-returns-clause-output_after c =
-    let totals = c.args.totals in
-    let first = same-part (ap signed_decimal (read_i64 totals.samples (search rules))) c.put_signed-at.ensures.appended in
-    let second = same-part (ap signed_decimal (read_i64 totals.firsts (search rules))) c.put_signed-at-2.ensures.appended in
-    (whole (together c.put-at.ensures (together first (together c.put-at-2.ensures (together second c.put.ensures))))).1
+    let all = whole (together c.put-at.ensures (together first (together c.put-at-2.ensures (together second c.put.ensures)))) in
+    record { value = all.0; output_after = all.1 }

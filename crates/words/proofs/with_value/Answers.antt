@@ -1,3 +1,4 @@
+-- `with_value` meets its contract: a value that is not negative is its own payload, and another is brought up by 2^28.
 use Rattle.integers.specs.Kit.{◌≡◌, sym, ap, ◌∙◌, true, ℕ, ◌-◌, ◌≤◌, ◌<◌, T, lit<, lit≤, ℤ, pos, ◌+ℤ◌, nat_abs}
 use native.Mathlib.Nat.{lt_trans}
 use native.Mathlib.Omega.{arith}
@@ -32,7 +33,7 @@ module _ (z : ℤ) (h : nat_abs z < value_limit) where
     sum_below = rw sum-read (omega (arith, negative-above z (rw read at e)))
 
 pub returns-then-z-lt0 : goal.returns-then-z-lt0
-returns-then-z-lt0 c =     let z = c.args.z in
+returns-then-z-lt0 c = let z = c.args.z in
     let k = c.args.k in
     let h = c.requires.z_bound in
     let e = c.if-z-lt0.true in
@@ -40,7 +41,7 @@ returns-then-z-lt0 c =     let z = c.args.z in
     omega (arith, s, payload_of-negative z (rw (read z h) at e))
 
 pub returns : goal.returns
-returns c =     let z = c.args.z in
+returns c = let z = c.args.z in
     let k = c.args.k in
     let h = c.requires.z_bound in
     c.with_payload-2.ensures ∙ ap (λ r. word k (nat_abs r)) (read z h) ∙ ap (word k) (sym (payload_of_other z (rw (read z h) at c.if-z-lt0.false)))
