@@ -8,13 +8,13 @@ use Rattle.integers.specs.Search.{any, first}
 use Rattle.integers.proofs.Search.{first_none, before_first, at_first, first-at, any_none}
 use Rattle.integers.proofs.Tests as tests
 use Rattle.answers.specs.Answer.{Returned, Cause, test, search, sized, answered, accepted, moved, moved_cause, moved_causes}
-use Rattle.answers.specs.Answer.{Passes, Names, fails, faulty-at, Reason, holds, passes, none_holds, Each, Numbered}
+use Rattle.answers.specs.Answer.{Passes, Names, fails, faulty_at, Reason, holds, passes, none_holds, Each, Numbered}
 
 -- what a search of the code answers
 
 module _ (size : ℕ) (faulty : ℕ → Bool) {i : ℕ} (f : i ≡ first size faulty) where
   pub found : {refusal : ℕ → Returned} → i < size → Names (search size faulty refusal) (refusal i)
-  found h = faulty-at i h (λ j l. before_first size faulty j (rw f at l)) (rw (← f) at (at_first size faulty (rw f at h)))
+  found h = faulty_at i h (λ j l. before_first size faulty j (rw f at l)) (rw (← f) at (at_first size faulty (rw f at h)))
 
   pub not_found : size ≤ i → (j : ℕ) → j < size → faulty j ≡ false
   not_found h j l = before_first size faulty j (rw (← f) (lt_of_lt_of_le l h))
@@ -37,12 +37,12 @@ passes_on (search size faulty refusal) l end h = rw (first_none size faulty (rec
 names_it : {c : Cause} {r : Returned} → Names c r → (l : List Cause) (end : Returned) → r ≡ answered (c ∷ l) end
 unfolding answered
 names_it (fails e) l end = rw e
-names_it (faulty-at {size} {faulty} i h before e) l end =
+names_it (faulty_at {size} {faulty} i h before e) l end =
     rw (first-at size faulty i h (record { room = le_of_lt h; fails = before }) e, lt-ltb i size h)
 
 pub excludes : {c : Cause} {r : Returned} → Names c r → Passes c → ⊥
 excludes (fails e) h = subst T e h
-excludes (faulty-at i l before e) h = subst T (sym e ∙ h i l) tt
+excludes (faulty_at i l before e) h = subst T (sym e ∙ h i l) tt
 
 -- a call has a reason, and no other answer has one
 
@@ -73,7 +73,7 @@ accepts (c ∷ l) end (p, h) = passes_on c l end p ∙ accepts l end h
 
 refuses : {c : Cause} {r : Returned} → Numbered c → Names c r → accepted r ≡ false
 refuses k (fails {passes} {refusal} e) = ne_eqb refusal.number 0 (λ z. omega arith)
-refuses k (faulty-at {size} {faulty} {refusal} i h before e) = let l = k i e in ne_eqb (refusal i).number 0 (λ z. omega arith)
+refuses k (faulty_at {size} {faulty} {refusal} i h before e) = let l = k i e in ne_eqb (refusal i).number 0 (λ z. omega arith)
 
 each_passes : {end : Returned} {l : List Cause} {r : Returned} → Reason end l r → Each Numbered l → T (accepted r) → Each Passes l
 each_passes (holds n) (k, more) h = absurd (rw (refuses k n) at h)

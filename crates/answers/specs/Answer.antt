@@ -89,7 +89,7 @@ Passes (search size faulty refusal) = (i : ℕ) → i < size → faulty i ≡ fa
 -- a cause holds, and is named by r
 pub data Names : Cause → Returned → Type 0 where
   fails : {passes : Bool} {refusal : Returned} → passes ≡ false → Names (test passes refusal) refusal
-  faulty-at : {size : ℕ} {faulty : ℕ → Bool} {refusal : ℕ → Returned} (i : ℕ) → i < size → ((j : ℕ) → j < i → faulty j ≡ false) → faulty i ≡ true
+  faulty_at : {size : ℕ} {faulty : ℕ → Bool} {refusal : ℕ → Returned} (i : ℕ) → i < size → ((j : ℕ) → j < i → faulty j ≡ false) → faulty i ≡ true
       → Names (search size faulty refusal) (refusal i)
 
 -- the first cause that holds names r, and those before it do not hold; or none holds, and r is `end`

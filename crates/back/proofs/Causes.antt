@@ -14,7 +14,7 @@ use Rattle.ring.proofs.Magnitude.{component_le}
 use Rattle.elements.specs.Buffer.{element_at}
 use Rattle.elements.proofs.Buffers.{number_at}
 use Rattle.answers.specs.Answer as answers
-use Rattle.answers.specs.Answer.{Returned, Reason, lowest, unless, faulty-at, holds, passes, none_holds, answered, accept, accepted}
+use Rattle.answers.specs.Answer.{Returned, Reason, lowest, unless, faulty_at, holds, passes, none_holds, answered, accept, accepted}
 use Rattle.answers.proofs.Causes.{found, not_found, some_reason, only_reason, right_length}
 use Rattle.element_sets.specs.Sets.{above_limit, AcceptedSet}
 use Rattle.element_sets.proofs.Limit.{block-set, none_above}
@@ -70,7 +70,7 @@ module _ (e : List ℤ) (n : ℕ) where
     refuses p none = rw p (by (some_reason (lowest places (above_limit magnitudes_limit e) 4 ∷ []) (record { number = 5; place = 0 })))
       where
         by : {r : Returned} {y : List ℤ} → Reason (record { number = 5; place = 0 }) (lowest places (above_limit magnitudes_limit e) 4 ∷ []) r → Ends r y
-        by (holds (faulty-at i h before t)) = (past_lengths (holds (faulty-at i h before t)), λ a. absurd a)
+        by (holds (faulty_at i h before t)) = (past_lengths (holds (faulty_at i h before t)), λ a. absurd a)
         by (passes p none_holds) = (past_lengths (passes p (holds (answers.fails (none p)))), λ a. absurd a)
 
     -- a number is above the limit by itself

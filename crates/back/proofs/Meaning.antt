@@ -121,7 +121,7 @@ module _ (d : ℕ) (e s : List ℤ) where
       by : {r : Returned} → Reason accept (back_causes n e (length s)) r → r.number ≡ 5 → ⊥
       by (holds (answers.fails t)) e = omega arith
       by (passes p (holds (answers.fails t))) e = omega arith
-      by (passes p (passes q (holds (answers.faulty-at i h before t)))) e = omega arith
+      by (passes p (passes q (holds (answers.faulty_at i h before t)))) e = omega arith
       by (passes p (passes q (passes u (holds (answers.fails t))))) e = subst T t (has_candidate n H)
       by (passes p (passes q (passes u (passes v answers.none_holds)))) e = omega arith
 

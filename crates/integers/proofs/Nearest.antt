@@ -54,7 +54,7 @@ module _ {rule : ℤ → ℤ → Type 0} (decides : Decides rule) {z : ℤ} {D :
           let e : q ≡ r +ℤ pos 1 = rw (as_dif q, as_dif r, as_dif (pos 1)) (simp difs (dif_same _ _ _ _ (omega arith))) in
           decides z r D (rw (as_dif r, as_dif z, as_dif (pos D)) (simp difs ((dif_le _ _ _ _).1 (omega arith))))
           (rw (as_dif r, as_dif z, as_dif (pos D), as_dif (pos 1)) (simp difs ((dif_le _ _ _ _).1 (omega arith))))
-          (R.at-half (omega arith)) (rw e at (Q.at-half (omega arith)))
+          (R.at_half (omega arith)) (rw e at (Q.at_half (omega arith)))
 
   pub only : {q r : ℤ} → Rounded rule z D q → Rounded rule z D r → q ≡ r
   only Q R = ≤ℤ_antisym (not_above Q R) (not_above R Q)
@@ -88,7 +88,7 @@ floor_rounded z w D h s t low high =
     let n = (size_by_parts z w D h).1 (omega arith) in
     record {
       nearest = record { within_half = omega arith };
-      at-half = λ e. rw (as_dif z, as_dif w, as_dif (pos D))
+      at_half = λ e. rw (as_dif z, as_dif w, as_dif (pos D))
           (simp difs ((dif_lt _ _ _ _).1 (lt_of_not-le (λ m. omega (arith, (size_by_parts z w D (D - (h + 1))).1 (omega arith))))));
     }
 
@@ -108,7 +108,7 @@ mirror : {z q : ℤ} {D : ℕ} → Rounded Away z D q → Rounded Away (neg_ℤ 
 mirror {z} {q} {D} Q =
     record {
       nearest = record { within_half = rw same Q.nearest.within_half };
-      at-half = λ e. rw (nat_abs_neg z, *ℤ-neg_ℤ (pos D) q, nat_abs_neg (pos D *ℤ q)) (Q.at-half (rw same at e));
+      at_half = λ e. rw (nat_abs_neg z, *ℤ-neg_ℤ (pos D) q, nat_abs_neg (pos D *ℤ q)) (Q.at_half (rw same at e));
     }
   where
     same : nat_abs (pos D *ℤ neg_ℤ q -ℤ neg_ℤ z) ≡ nat_abs (pos D *ℤ q -ℤ z)
@@ -122,7 +122,7 @@ module _ {D : ℕ} (positive : 0 < D) where
   upwards : (a : ℕ) → Rounded Away (pos a) D (half_up (pos a) D)
   upwards a =
       let R = half_up-rounded positive (pos a) in
-      record { nearest = R.nearest; at-half = λ e. up_away a (pos D *ℤ half_up (pos a) D) (R.at-half e) }
+      record { nearest = R.nearest; at_half = λ e. up_away a (pos D *ℤ half_up (pos a) D) (R.at_half e) }
 
   pub half_away-rounded : (z : ℤ) → Rounded Away z D (half_away z D)
   unfolding half_away
@@ -155,7 +155,7 @@ module _ {c D : ℕ} (some : 0 < c) (positive : 0 < D) where
       let n = nat_abs (pos D *ℤ q -ℤ z) in
       sym (only-half_away (mul-pos some positive) (record {
         nearest = record { within_half = rw (scaled_difference z q) (omega (arith, mul-le-mul_left c R.nearest.within_half)) };
-        at-half = λ e. scaled_away z q (R.at-half (eq_of_mul-eq-mul_left c some (2 * n) D (omega (arith, rw (scaled_difference z q) at e))));
+        at_half = λ e. scaled_away z q (R.at_half (eq_of_mul-eq-mul_left c some (2 * n) D (omega (arith, rw (scaled_difference z q) at e))));
       }))
 
 -- for D = 2·h, by shifts: z/h rounded down, plus 1, divided by 2 and rounded down; from a negative z first 1 is taken

@@ -11,7 +11,7 @@ pub record Nearest (z : ℤ) (D : ℕ) (q : ℤ) : Type 0 where
 -- q is nearest; and at a half, where two whole numbers are, D·q stands to z as the rule for halves asks
 pub record Rounded (rule : ℤ → ℤ → Type 0) (z : ℤ) (D : ℕ) (q : ℤ) : Type 0 where
   pub nearest : Nearest z D q
-  pub at-half : 2 * nat_abs (pos D *ℤ q -ℤ z) ≡ D → rule z (pos D *ℤ q)
+  pub at_half : 2 * nat_abs (pos D *ℤ q -ℤ z) ≡ D → rule z (pos D *ℤ q)
 
 -- a half goes up: the multiple w of D that is taken lies above z
 abbrev pub Up : ℤ → ℤ → Type 0

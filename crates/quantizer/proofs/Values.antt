@@ -91,7 +91,7 @@ module _ (s : ℕ) (h : 0 < s) where
   pub quantized_again : (q : ℤ) → quantized (dequantized q s) s ≡ q
   quantized_again q =
       let e : nat_abs (dequantized q s -ℤ dequantized q s) ≡ 0 = ap nat_abs (+ℤ_invr (dequantized q s)) in
-      sym (only-quantized (record { nearest = record { within_half = omega arith }; at-half = λ z. absurd (omega arith) }))
+      sym (only-quantized (record { nearest = record { within_half = omega arith }; at_half = λ z. absurd (omega arith) }))
 
   -- a coefficient and its negative are quantized to opposite values
   pub quantized_opposite : (y : ℤ) → quantized (neg_ℤ y) s ≡ neg_ℤ (quantized y s)

@@ -42,7 +42,7 @@ module _ (s b : ℕ) (m u : List ℤ) (z : ℤ) (whole : component u 0 ≡ pos (
   coefficient-whole =
       let D = 2 ^ (b + s) in
       let none : nat_abs (pos D *ℤ z -ℤ numerator b m u) ≡ 0 = rw numerator-whole (ap nat_abs (+ℤ_invr (pos D *ℤ z))) in
-      sym (only-coefficient s b m u (record { nearest = record { within_half = omega arith }; at-half = λ e. absurd (omega (arith, pow_pos (b + s))) }))
+      sym (only-coefficient s b m u (record { nearest = record { within_half = omega arith }; at_half = λ e. absurd (omega (arith, pow_pos (b + s))) }))
 
 -- all components negated
 

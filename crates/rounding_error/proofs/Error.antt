@@ -43,16 +43,16 @@ module _ (b L : ℕ) (m u : List ℤ) (table : TableAt b m) (small : magnitudes 
       (≤ℤ_trans
       (within_all rising (pos 1) b m u q
       (λ k l t. below-over k l (q (suc k)) (h.at_positive (suc k) (omega arith) l t))
-      (λ k l t. above_under k l (q (suc k)) (h.at-negative (suc k) (omega arith) l t)))
+      (λ k l t. above_under k l (q (suc k)) (h.at_negative (suc k) (omega arith) l t)))
       (≤ℤ-*ℤ (with_fractions u q).lower (+ℤ-≤ℤ (≤ℤ_refl (pos 2 *ℤ numerator b m u)) (pos_≤ℤ enough)))).le
 
-  pub value_at-least_under : ValueAtLeast u (less_by L b (numerator b m u))
-  value_at-least_under q h =
+  pub value_at_least-under : ValueAtLeast u (less_by L b (numerator b m u))
+  value_at_least-under q h =
       (≤ℤ_trans
       (≤ℤ-*ℤ (with_fractions u q).lower (+ℤ-≤ℤ (≤ℤ_refl (pos 2 *ℤ numerator b m u)) (neg_ℤ-≤ℤ (pos_≤ℤ enough))))
       (within_all falling (negsuc 0) b m u q
       (λ k l t. above_under k l (q (suc k)) (h.at_positive (suc k) (omega arith) l t))
-      (λ k l t. below-over k l (q (suc k)) (h.at-negative (suc k) (omega arith) l t)))).le
+      (λ k l t. below-over k l (q (suc k)) (h.at_negative (suc k) (omega arith) l t)))).le
 
 -- N against the number y
 
@@ -86,8 +86,8 @@ module _ (s b E : ℕ) {z y : ℤ} (nearest : Nearest z (2 ^ (b + s)) y) where
   pub over_at_most_top : T (at_most (more_by L b z) (top s y d))
   over_at_most_top = same-lower (more_by L b z) (top s y d) (omega (arith, double b)) both.0
 
-  pub under_at-least-bottom : T (at_most (bottom s y d) (less_by L b z))
-  under_at-least-bottom = same-lower (bottom s y d) (less_by L b z) (omega (arith, double b)) both.1
+  pub under_at_least-bottom : T (at_most (bottom s y d) (less_by L b z))
+  under_at_least-bottom = same-lower (bottom s y d) (less_by L b z) (omega (arith, double b)) both.1
 
 -- the theorem
 
@@ -101,6 +101,6 @@ module _ (s b E : ℕ) (m u : List ℤ) (table : TableAt b m) (small : magnitude
       record {
         value_at_most = λ q h.
             at_most_trans (with_fractions u q) (more_by L b N) (top s y d) (value_at_most_over b L m u table small q h) (over_at_most_top s b E nearest);
-        value_at-least = λ q h.
-            at_most_trans (bottom s y d) (less_by L b N) (with_fractions u q) (under_at-least-bottom s b E nearest) (value_at-least_under b L m u table small q h);
+        value_at_least = λ q h.
+            at_most_trans (bottom s y d) (less_by L b N) (with_fractions u q) (under_at_least-bottom s b E nearest) (value_at_least-under b L m u table small q h);
       }

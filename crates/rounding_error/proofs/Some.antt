@@ -40,11 +40,11 @@ module _ (p q : Fraction) (P : Fraction → Type 0) where
 pub some_low : (u : List ℤ) → Low u (λ k. by_sign quarter (whole (pos 2)) (component u k))
 some_low u = record {
   at_positive = λ k l h. when_positive quarter (whole (pos 2)) (λ x. T (below (root k) x)) (between k l h).0 (component u k);
-  at-negative = λ k l h. when_negative quarter (whole (pos 2)) (λ x. T (above (root k) x)) (between k l h).1 (component u k);
+  at_negative = λ k l h. when_negative quarter (whole (pos 2)) (λ x. T (above (root k) x)) (between k l h).1 (component u k);
 }
 
 pub some_high : (u : List ℤ) → High u (λ k. by_sign (whole (pos 2)) quarter (component u k))
 some_high u = record {
   at_positive = λ k l h. when_positive (whole (pos 2)) quarter (λ x. T (above (root k) x)) (between k l h).1 (component u k);
-  at-negative = λ k l h. when_negative (whole (pos 2)) quarter (λ x. T (below (root k) x)) (between k l h).0 (component u k);
+  at_negative = λ k l h. when_negative (whole (pos 2)) quarter (λ x. T (below (root k) x)) (between k l h).0 (component u k);
 }

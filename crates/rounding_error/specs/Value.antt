@@ -13,12 +13,12 @@ with_fractions u q = plus (whole (component u 0)) (sum (whole (pos 0)) plus 7 (�
 -- fractions whose sum does not lie above the value of u: each q k lies below c_k where u_k is positive, and above it where u_k is negative
 pub record Low (u : List ℤ) (q : ℕ → Fraction) : Type 0 where
   pub at_positive : (k : ℕ) → 1 ≤ k → k ≤ 7 → T (lt_z (pos 0) (component u k)) → T (below (root k) (q k))
-  pub at-negative : (k : ℕ) → 1 ≤ k → k ≤ 7 → T (lt_z (component u k) (pos 0)) → T (above (root k) (q k))
+  pub at_negative : (k : ℕ) → 1 ≤ k → k ≤ 7 → T (lt_z (component u k) (pos 0)) → T (above (root k) (q k))
 
 -- the mirror, fractions whose sum does not lie below it: each q k lies above c_k where u_k is positive, and below it where u_k is negative
 pub record High (u : List ℤ) (q : ℕ → Fraction) : Type 0 where
   pub at_positive : (k : ℕ) → 1 ≤ k → k ≤ 7 → T (lt_z (pos 0) (component u k)) → T (above (root k) (q k))
-  pub at-negative : (k : ℕ) → 1 ≤ k → k ≤ 7 → T (lt_z (component u k) (pos 0)) → T (below (root k) (q k))
+  pub at_negative : (k : ℕ) → 1 ≤ k → k ≤ 7 → T (lt_z (component u k) (pos 0)) → T (below (root k) (q k))
 
 -- p or q, by the sign of a component, with which sums of both kinds are made (`some_low`, `some_high`)
 abbrev pub by_sign : Fraction → Fraction → ℤ → Fraction
@@ -37,4 +37,4 @@ ValueAtLeast u r = (q : ℕ → Fraction) → High u q → T (at_most r (with_fr
 -- half of an element's value: "at most d when the value is at most 2y + 2d and at least 2y - 2d"
 pub record Near (s : ℕ) (y : ℤ) (u : List ℤ) (d : Fraction) : Type 0 where
   pub value_at_most : ValueAtMost u (plus (times (pos (2 ^ s)) (whole y)) (times (pos (2 ^ s)) d))
-  pub value_at-least : ValueAtLeast u (minus (times (pos (2 ^ s)) (whole y)) (times (pos (2 ^ s)) d))
+  pub value_at_least : ValueAtLeast u (minus (times (pos (2 ^ s)) (whole y)) (times (pos (2 ^ s)) d))

@@ -10,10 +10,10 @@ use Rattle.sheet_blocks.specs.declared.Totals.{Totals}
 use Rattle.sheet_blocks.specs.Blocks.{Scratch, output_word}
 
 -- every cause was looked for, and there is none
-pub record Checked (K : Scratch) (words : List ℕ) (b scratch-length output_length : ℕ) : Type 0 where
+pub record Checked (K : Scratch) (words : List ℕ) (b scratch_length output_length : ℕ) : Type 0 where
   pub at_width : T (width b)
   pub right : ValidSheet sample_format words
-  pub scratch_size : scratch-length ≡ K.size
+  pub scratch_size : scratch_length ≡ K.size
   pub output_size : length words ≤ output_length
 
 -- 64 coefficients that words can hold

@@ -11,7 +11,7 @@ use Rattle.integers.proofs.Signed.{in32, read_i32}
 use Rattle.integers.specs.Search.{first, any}
 use Rattle.integers.proofs.Search.{NoneBelow, at_first, none_below_0, none_below_more, Asked, asked_none, asked_more}
 use Rattle.words.specs.Word.{end_kind, kind, payload, value}
-use Rattle.answers.specs.Answer.{Returned, faulty-at, accept_with, answered, holds}
+use Rattle.answers.specs.Answer.{Returned, faulty_at, accept_with, answered, holds}
 use Rattle.answers.proofs.Causes.{only_reason}
 use Rattle.sheet_checks.specs.declared.Format.{Format}
 use Rattle.sheet_checks.specs.declared.Values.{Values}
@@ -97,4 +97,4 @@ module _ (f : Format) (words : List ℕ) where
   -- it ends at i with the refusal r of that word
   pub ends : (i : ℕ) {r : Returned} → i < length words → NoneBelow (length words) (faulty f words) i → faulty f words i ≡ true
       → r ≡ record { number = cause_at f words i; place = i } → r ≡ answered (contents f words ∷ []) (accept_with (length words))
-  ends i l P t e = e ∙ only_reason {l = contents f words ∷ []} (holds (faulty-at i l P.fails t))
+  ends i l P t e = e ∙ only_reason {l = contents f words ∷ []} (holds (faulty_at i l P.fails t))

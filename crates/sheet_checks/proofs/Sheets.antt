@@ -8,7 +8,7 @@ use borrow.Author.Tests.{eq-eqb, ne_eqb}
 use Rattle.integers.proofs.Ranges.{within_limit}
 use Rattle.limits.specs.Limits.{coefficient_limit}
 use Rattle.words.specs.Word.{end_kind, kind, payload, value}
-use Rattle.answers.specs.Answer.{Returned, Passes, Names, faulty-at, Each, Reason, holds, passes, none_holds, accept_with, accepted}
+use Rattle.answers.specs.Answer.{Returned, Passes, Names, faulty_at, Each, Reason, holds, passes, none_holds, accept_with, accepted}
 use Rattle.sheet_checks.specs.declared.Format.{Format}
 use Rattle.sheet_checks.specs.Check.{coefficient_format, word_at, blocks, size_of, has_head, shape, body_faulty, end_faulty, faulty, cause_at, contents}
 use Rattle.sheet_checks.specs.Sheets as sheets
@@ -92,8 +92,8 @@ module _ (f : Format) (words : List ℕ) where
   -- the fault of the first faulty word
 
   pub in_words : {r : Returned} → Names (contents f words) r → WordFault f words r
-  in_words (faulty-at zero h before t) = absurd (subst T (sym t ∙ head_right f words) tt)
-  in_words (faulty-at (suc i) h before t) = go (ℕ_discrete (suc (suc i)) (length words))
+  in_words (faulty_at zero h before t) = absurd (subst T (sym t ∙ head_right f words) tt)
+  in_words (faulty_at (suc i) h before t) = go (ℕ_discrete (suc (suc i)) (length words))
     where
       w : ℕ
       w = word_at words (suc i)
@@ -125,7 +125,7 @@ module _ (f : Format) (words : List ℕ) where
   -- and a word that has one of these faults is refused by it
 
   named : (i : ℕ) {n : ℕ} → sheets.First f words i → i < length words → faulty f words i ≡ true → cause_at f words i ≡ n → Names (contents f words) (record { number = n; place = i })
-  named i (p, before) l t c = rw (← c) (faulty-at i l before t)
+  named i (p, before) l t c = rw (← c) (faulty_at i l before t)
 
   pub by_words : {r : Returned} → WordFault f words r → Names (contents f words) r
   by_words (sheets.other_kind i F l k) =
