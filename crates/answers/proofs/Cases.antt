@@ -1,5 +1,6 @@
 -- The papers' number and place tell every answer from every other.
-use Rattle.integers.specs.Kit.{◌≡◌, refl, sym, ap, ◌∙◌, cond, List, [], ◌∷◌, eqb, get_or}
+use Rattle.std.specs.Prelude.{◌≡◌, ◌∷◌}
+use Rattle.integers.specs.Kit.{refl, sym, ap, ◌∙◌, cond, List, [], eqb, get_or}
 use Rattle.answers.specs.declared.Answer.{Answer}
 use Rattle.answers.specs.declared.Answer.TheVariants.{Accepted, Lengths, Sample, Width, Magnitudes, NoBlock, Head, Words, End, Orientation, Step, Coefficient}
 use Rattle.answers.specs.Answer.{Returned, returned}

@@ -1,6 +1,7 @@
 -- The causes of a refusal, for every list of them: what is returned has a reason, and no other answer has one; it is an acceptance exactly when no cause
 -- holds.
-use Rattle.integers.specs.Kit.{◌≡◌, refl, sym, subst, ◌∙◌, Bool, true, false, cond, List, [], ◌∷◌, ◌++◌, ℕ, ◌≤◌, ◌<◌, T, eqb, ltb}
+use Rattle.std.specs.Prelude.{◌≡◌, ◌∷◌, ◌++◌, ◌≤◌, ◌<◌}
+use Rattle.integers.specs.Kit.{refl, sym, subst, ◌∙◌, Bool, true, false, cond, List, [], ℕ, T, eqb, ltb}
 use native.Mathlib.Nat.{le_refl, le_of_lt, lt_of_lt_of_le}
 use native.Mathlib.Omega.{arith}
 use borrow.Author.Tests.{eq-eqb, ne_eqb, lt-ltb, le-ltb, ltb-true, ltb-false}

@@ -1,5 +1,6 @@
 -- The laws of every job: a call has a reason, and no other answer has one; it is accepted exactly when no cause holds; and what it leaves.
-use Rattle.integers.specs.Kit.{◌≡◌, sym, ◌∙◌, Bool, true, false, cond, ℕ}
+use Rattle.std.specs.Prelude.{◌≡◌}
+use Rattle.integers.specs.Kit.{sym, ◌∙◌, Bool, true, false, cond, ℕ}
 use Rattle.integers.proofs.Tests.{holds}
 use Rattle.answers.specs.Answer.{Returned, Reason, Each, Passes, Numbered, accepted}
 use Rattle.answers.specs.Job.{Job, job_returned, job_left, Accepts, Refuses}

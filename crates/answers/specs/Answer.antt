@@ -1,5 +1,6 @@
 -- What a call returns (01, "Why a set or sheet is turned back", and 02, which adds numbers): a number, which is 0 for an accepted call, and a place.
-use Rattle.integers.specs.Kit.{◌≡◌, Bool, true, false, cond, List, [], ◌∷◌, ℕ, ◌+◌, ◌<◌, T, ltb, eqb}
+use Rattle.std.specs.Prelude.{◌≡◌, ◌∷◌, ◌+◌, ◌<◌}
+use Rattle.integers.specs.Kit.{Bool, true, false, cond, List, [], ℕ, T, ltb, eqb}
 use Rattle.integers.specs.Search.{first}
 use Rattle.answers.specs.declared.Answer.{Answer}
 use Rattle.answers.specs.declared.Answer.TheVariants.{Accepted, Lengths, Sample, Width, Magnitudes, NoBlock, Head, Words, End, Orientation, Step, Coefficient}

@@ -1,6 +1,7 @@
 -- A job: what decides its answer, and what it leaves, for any numbers and any buffers (01, "What each contract has to say"). Every public job is one of
 -- these; `answers/Jobs` has the laws that hold of each.
-use Rattle.integers.specs.Kit.{◌≡◌, cond, false, List, T}
+use Rattle.std.specs.Prelude.{◌≡◌}
+use Rattle.integers.specs.Kit.{cond, false, List, T}
 use Rattle.answers.specs.Answer.{Returned, Cause, answered, accepted}
 
 -- a job on given numbers and buffers. An A is what it leaves: the content of the buffer that it writes, or of several, and what it gives beside its answer

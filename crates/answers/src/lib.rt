@@ -1,7 +1,7 @@
 // What the public jobs answer. specs/ gives the papers' number and place for each case.
 #![tactic(auto)]
 
-ghost use Rattle.integers.specs.Kit.{◌≡◌};
+ghost use Rattle.std.specs.Prelude.{◌≡◌};
 ghost use Rattle.answers.specs.Answer.{returned};
 
 #[derive(Clone, Copy)]

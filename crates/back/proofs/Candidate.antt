@@ -1,5 +1,6 @@
 -- The candidate: where a block has the elements, it is that block.
-use Rattle.integers.specs.Kit.{◌≡◌, sym, ap, ◌∙◌, List, [], ℕ, ◌^◌, ◌<◌, T, lit<, ℤ, pos, length}
+use Rattle.std.specs.Prelude.{◌≡◌, ◌^◌, ◌<◌}
+use Rattle.integers.specs.Kit.{sym, ap, ◌∙◌, List, [], ℕ, T, lit<, ℤ, pos, length}
 use native.Mathlib.Nat.{one-le-pow}
 use lib.Signed.{shr_z}
 use mir.Facts.{and_yes, yes_and}

@@ -1,5 +1,6 @@
 -- The ways out of the check of the way back, without the names of its generated statement: what it returns, and the block beside it.
-use Rattle.integers.specs.Kit.{◌≡◌, sym, ap, subst, ◌∙◌, Bool, true, false, not, List, [], ◌∷◌, ℕ, ◌/◌, ◌%◌, ◌≤◌, ◌<◌, T, ℤ, pos, nat_abs, length, get_or}
+use Rattle.std.specs.Prelude.{◌≡◌, ◌∷◌, ◌/◌, ◌%◌, ◌≤◌, ◌<◌}
+use Rattle.integers.specs.Kit.{sym, ap, subst, ◌∙◌, Bool, true, false, not, List, [], ℕ, T, ℤ, pos, nat_abs, length, get_or}
 use native.Mathlib.Nat.{lt_of_lt_of_le}
 use native.Mathlib.Omega.{arith}
 use borrow.Author.Tests.{lt-ltb, ltb-true, not-true, not-false}

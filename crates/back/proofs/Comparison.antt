@@ -1,5 +1,6 @@
 -- What decides whether a block has the elements: forward accepts it, and the 512 numbers agree one by one.
-use Rattle.integers.specs.Kit.{◌≡◌, sym, ap, ◌∙◌, Bool, true, false, not, ◌&&◌, List, ℕ, ◌+◌, ◌≤◌, ◌<◌, T, eqb, ℤ, pos, length, get_or}
+use Rattle.std.specs.Prelude.{◌≡◌, ◌&&◌, ◌+◌, ◌≤◌, ◌<◌}
+use Rattle.integers.specs.Kit.{sym, ap, ◌∙◌, Bool, true, false, not, List, ℕ, T, eqb, ℤ, pos, length, get_or}
 use native.Mathlib.Nat.{not-suc-le-zero}
 use native.Mathlib.Decide.{ℕ_discrete}
 use native.Mathlib.Omega.{arith}

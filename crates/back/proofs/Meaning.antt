@@ -1,7 +1,8 @@
 -- What the way back does, in 01's words: a call with room for a block is accepted exactly when there is a block in range that has these elements; then
 -- the buffer holds that block, which is the only one. An accepted set that no block has is refused by cause 5. And what forward and back do
 -- after one another. All of it for suc d dimensions: 01's blocks have d = 1.
-use Rattle.integers.specs.Kit.{◌≡◌, sym, ap, subst, ◌∙◌, List, ℕ, suc, ◌+◌, ◌*◌, ◌/◌, ◌%◌, ◌<◌, T, lit<, ℤ, pos, length, get_or}
+use Rattle.std.specs.Prelude.{◌≡◌, ◌+◌, ◌*◌, ◌/◌, ◌%◌, ◌<◌}
+use Rattle.integers.specs.Kit.{sym, ap, subst, ◌∙◌, List, ℕ, suc, T, lit<, ℤ, pos, length, get_or}
 use mathlib.Core.Logic.{◌↔◌}
 use native.Mathlib.Omega.{arith}
 use lib.Dec.{eqb→eq}

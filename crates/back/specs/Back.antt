@@ -1,5 +1,6 @@
 -- The way back of d dimensions (01, "What the library does" and "Why a set or sheet is turned back"), for any buffers.
-use Rattle.integers.specs.Kit.{◌≡◌, Bool, not, ◌&&◌, List, [], ◌∷◌, ℕ, ◌+◌, ◌*◌, ◌^◌, ◌<◌, ℤ, pos, length, get_or}
+use Rattle.std.specs.Prelude.{◌≡◌, ◌&&◌, ◌∷◌, ◌+◌, ◌*◌, ◌^◌, ◌<◌}
+use Rattle.integers.specs.Kit.{Bool, not, List, [], ℕ, ℤ, pos, length, get_or}
 use Rattle.std.specs.Int.Signed.{shr_z}
 use Rattle.integers.specs.Range.{outside_at}
 use Rattle.integers.specs.Table.{table}

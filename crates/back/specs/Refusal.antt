@@ -1,5 +1,6 @@
 -- What the way back returns where no block has the elements: the code looks for cause 4 only once it knows that there is none.
-use Rattle.integers.specs.Kit.{List, [], ◌∷◌, ℤ}
+use Rattle.std.specs.Prelude.{◌∷◌}
+use Rattle.integers.specs.Kit.{List, [], ℤ}
 use Rattle.limits.specs.Limits.{magnitudes_limit, places}
 use Rattle.answers.specs.Answer.{Returned, lowest, answered}
 use Rattle.element_sets.specs.Sets.{above_limit}

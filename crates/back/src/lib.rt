@@ -10,7 +10,8 @@
 // and enough for the sums of the passes to fit 32 bits.
 #![tactic(auto)]
 
-ghost use Rattle.integers.specs.Kit.{◌≡◌, T, length};
+ghost use Rattle.std.specs.Prelude.{◌≡◌};
+ghost use Rattle.integers.specs.Kit.{T, length};
 ghost use Rattle.integers.specs.Test.{eq_list};
 ghost use Rattle.limits.specs.Limits.{components_size, places};
 ghost use Rattle.answers.specs.Answer.{accept, accepted, answered, returned};

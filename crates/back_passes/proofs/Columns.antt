@@ -1,6 +1,7 @@
 -- One column on the way back: the four terms that a sample is summed of, room for them, and the store of a column.
-use Rattle.integers.specs.Kit.{◌≡◌, refl, sym, ap, ap₂, ◌∙◌, Bool, ◌||◌, List, ℕ, ◌+◌, ◌*◌, ◌-◌, ◌/◌, ◌%◌, ◌≤◌, ◌<◌, T, eqb, leb, lit<, lit≤}
-use Rattle.integers.specs.Kit.{ℤ, pos, ◌+ℤ◌, ◌*ℤ◌, nat_abs, length, get_or, set}
+use Rattle.std.specs.Prelude.{◌≡◌, ◌||◌, ◌+◌, ◌*◌, ◌-◌, ◌/◌, ◌%◌, ◌≤◌, ◌<◌, ◌+ℤ◌, ◌*ℤ◌}
+use Rattle.integers.specs.Kit.{refl, sym, ap, ap₂, ◌∙◌, Bool, List, ℕ, T, eqb, leb, lit<, lit≤}
+use Rattle.integers.specs.Kit.{ℤ, pos, nat_abs, length, get_or, set}
 use Prim.Native.Nat.{zero-le}
 use native.Mathlib.Nat.{le_trans, mul-le-mul, mul-le-mul_right, lt_of_le_of_lt, not-suc-le-zero}
 use native.Mathlib.Decide.{ℕ_discrete}

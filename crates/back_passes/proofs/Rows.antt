@@ -1,5 +1,6 @@
 -- The rows on the way back, the room for them, and the block that they restore.
-use Rattle.integers.specs.Kit.{◌≡◌, sym, ap, ◌∙◌, List, ℕ, ◌+◌, ◌*◌, ◌/◌, ◌%◌, ◌≤◌, ◌<◌, T, ltb, lit<, lit≤, ℤ, pos, ◌+ℤ◌, ◌*ℤ◌, nat_abs, get_or, ◌&&◌}
+use Rattle.std.specs.Prelude.{◌≡◌, ◌+◌, ◌*◌, ◌/◌, ◌%◌, ◌≤◌, ◌<◌, ◌+ℤ◌, ◌*ℤ◌, ◌&&◌}
+use Rattle.integers.specs.Kit.{sym, ap, ◌∙◌, List, ℕ, T, ltb, lit<, lit≤, ℤ, pos, nat_abs, get_or}
 use native.Mathlib.Nat.{le_trans}
 use native.Mathlib.Omega.{arith}
 use lib.Dec.{ltb→lt}

@@ -1,5 +1,6 @@
 -- What the passes of the way back make, over rows and then over columns.
-use Rattle.integers.specs.Kit.{◌≡◌, List, ℕ, ◌+◌, ◌*◌, ◌/◌, ◌≤◌, ◌<◌, ℤ, pos, ◌+ℤ◌, ◌*ℤ◌, nat_abs, length, get_or}
+use Rattle.std.specs.Prelude.{◌≡◌, ◌+◌, ◌*◌, ◌/◌, ◌≤◌, ◌<◌, ◌+ℤ◌, ◌*ℤ◌}
+use Rattle.integers.specs.Kit.{List, ℕ, ℤ, pos, nat_abs, length, get_or}
 use Rattle.ring.specs.Element.{component, cosine, mul}
 use Rattle.dct.specs.Inverse.{integer_back, known_frequency, known_component}
 use Rattle.limits.specs.Limits.{components_size, magnitudes_limit, places}

@@ -9,7 +9,8 @@
 // 32 bits suffice: the limit, 2^22, needs 23 bits, c_k times an element 24, the transpose 27, and the sums of a column 30.
 #![tactic(auto)]
 
-ghost use Rattle.integers.specs.Kit.{◌≡◌, ◌%◌, ◌*◌, ◌+◌, ◌/◌, ◌<◌, ◌≤◌, nat_abs, pos, ◌+ℤ◌, length};
+ghost use Rattle.std.specs.Prelude.{◌≡◌, ◌%◌, ◌*◌, ◌+◌, ◌/◌, ◌<◌, ◌≤◌, ◌+ℤ◌};
+ghost use Rattle.integers.specs.Kit.{nat_abs, pos, length};
 ghost use Rattle.std.specs.Int.Signed.{shr_z};
 ghost use Rattle.integers.specs.Table.{PartStored};
 ghost use Rattle.ring.specs.Element as ring;

@@ -1,5 +1,6 @@
 -- A block's elements, as they stand in a buffer: how large they are, and those of a block with all samples negated.
-use Rattle.integers.specs.Kit.{◌≡◌, sym, ap, ◌∙◌, List, ℕ, suc, ◌+◌, ◌-◌, ◌*◌, ◌/◌, ◌%◌, ◌≤◌, ◌<◌, lit<, ℤ, pos, negsuc, neg_ℤ, ◌*ℤ◌, length, get_or}
+use Rattle.std.specs.Prelude.{◌≡◌, ◌+◌, ◌-◌, ◌*◌, ◌/◌, ◌%◌, ◌≤◌, ◌<◌, ◌*ℤ◌}
+use Rattle.integers.specs.Kit.{sym, ap, ◌∙◌, List, ℕ, suc, lit<, ℤ, pos, negsuc, neg_ℤ, length, get_or}
 use native.Mathlib.Omega.{arith}
 use Rattle.integers.proofs.Integer.{minus-one-*ℤ}
 use Rattle.integers.proofs.Ranges.{inside_small}

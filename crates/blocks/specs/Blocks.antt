@@ -1,5 +1,6 @@
 -- Blocks of d dimensions in a buffer, and their exact elements (01, "Elements").
-use Rattle.integers.specs.Kit.{◌≡◌, false, List, ℕ, ◌+◌, ◌*◌, ◌/◌, ◌%◌, ◌<◌, ℤ, pos, ◌+ℤ◌, get_or}
+use Rattle.std.specs.Prelude.{◌≡◌, ◌+◌, ◌*◌, ◌/◌, ◌%◌, ◌<◌, ◌+ℤ◌}
+use Rattle.integers.specs.Kit.{false, List, ℕ, ℤ, pos, get_or}
 use Rattle.integers.specs.Range.{outside_at}
 use Rattle.integers.specs.Sum.{sum}
 use Rattle.integers.specs.Table.{table}

@@ -1,6 +1,7 @@
 -- What the core asks of an accepted set; how large its coefficients get, and that they are negated with it; and that a block's first coefficient is
 -- the sum of its samples.
-use Rattle.integers.specs.Kit.{◌≡◌, refl, ◌∙◌, ap, cond, List, ℕ, suc, ◌+◌, ◌-◌, ◌^◌, ◌≤◌, ◌<◌, T, eqb, lit<, lit≤, ℤ, pos, ◌*ℤ◌, nat_abs, length, get_or}
+use Rattle.std.specs.Prelude.{◌≡◌, ◌+◌, ◌-◌, ◌^◌, ◌≤◌, ◌<◌, ◌*ℤ◌}
+use Rattle.integers.specs.Kit.{refl, ◌∙◌, ap, cond, List, ℕ, suc, T, eqb, lit<, lit≤, ℤ, pos, nat_abs, length, get_or}
 use native.Mathlib.Nat.{pow-le-pow_right}
 use native.Mathlib.Omega.{arith}
 use lib.IntN.{*ℤ_comm, *ℤ-zero}

@@ -1,6 +1,7 @@
 -- The formula's coefficients of an accepted set are as near as demand 3 asks, in d dimensions: the distance's numerator is the limit of the magnitudes,
 -- divided without a rest.
-use Rattle.integers.specs.Kit.{List, ℕ, ◌+◌, ◌*◌, ◌^◌, ◌≤◌, T, ℤ, pos}
+use Rattle.std.specs.Prelude.{◌+◌, ◌*◌, ◌^◌, ◌≤◌}
+use Rattle.integers.specs.Kit.{List, ℕ, T, ℤ, pos}
 use native.Mathlib.Nat.{le_trans}
 use Rattle.integers.proofs.Tables.{get_d_table}
 use Rattle.limits.specs.Limits.{places_in, sample_limit, magnitudes_limit_in, halvings_in, distance_numerator_in}

@@ -1,5 +1,6 @@
 -- The half of an element's components that is 0, as the code finds it, and the terms of N that are left where one is.
-use Rattle.integers.specs.Kit.{◌≡◌, refl, sym, ◌∙◌, Bool, true, false, ◌||◌, List, ℕ, suc, ◌+◌, ◌-◌, ◌%◌, ◌≤◌, ◌<◌, ℤ, pos, length}
+use Rattle.std.specs.Prelude.{◌≡◌, ◌||◌, ◌+◌, ◌-◌, ◌%◌, ◌≤◌, ◌<◌}
+use Rattle.integers.specs.Kit.{refl, sym, ◌∙◌, Bool, true, false, List, ℕ, suc, ℤ, pos, length}
 use native.Mathlib.Decide.{dec_lt, ℕ_discrete}
 use native.Mathlib.Omega.{arith}
 use lib.IntN.{+ℤ_idr, *ℤ-zero}

@@ -1,5 +1,6 @@
 -- How large the sums and products of rounding get, and that the coefficient fits an i32.
-use Rattle.integers.specs.Kit.{◌≡◌, refl, sym, List, ℕ, zero, suc, ◌+◌, ◌*◌, ◌^◌, ◌≤◌, ◌<◌, lit<, ℤ, pos, ◌+ℤ◌, ◌*ℤ◌, nat_abs}
+use Rattle.std.specs.Prelude.{◌≡◌, ◌+◌, ◌*◌, ◌^◌, ◌≤◌, ◌<◌, ◌+ℤ◌, ◌*ℤ◌}
+use Rattle.integers.specs.Kit.{refl, sym, List, ℕ, zero, suc, lit<, ℤ, pos, nat_abs}
 use native.Mathlib.Nat.{zero-add, le_refl, le_trans, lt_of_le_of_lt, mul-add, mul-le-mul, mul-le-mul_left, mul-le-mul_right}
 use native.Mathlib.Omega.{arith}
 use lib.IntN.{+ℤ_assoc, +ℤ_idr}

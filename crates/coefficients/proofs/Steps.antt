@@ -1,5 +1,6 @@
 -- The code's own sums and its shifts, read from their bits: each fits, and is what the formula says.
-use Rattle.integers.specs.Kit.{◌≡◌, refl, sym, ap, ap₂, ◌∙◌, List, ℕ, suc, ◌+◌, ◌-◌, ◌*◌, ◌/◌, ◌^◌, ◌≤◌, ◌<◌, lit<, ℤ, pos, negsuc, ◌+ℤ◌, ◌*ℤ◌, nat_abs}
+use Rattle.std.specs.Prelude.{◌≡◌, ◌+◌, ◌-◌, ◌*◌, ◌/◌, ◌^◌, ◌≤◌, ◌<◌, ◌+ℤ◌, ◌*ℤ◌}
+use Rattle.integers.specs.Kit.{refl, sym, ap, ap₂, ◌∙◌, List, ℕ, suc, lit<, ℤ, pos, negsuc, nat_abs}
 use Prim.Native.Nat.{zero-le}
 use native.Mathlib.Nat.{lt_of_le_of_lt, add-zero, div-eq_of_lt}
 use native.Mathlib.Numerals.{add-one}

@@ -1,5 +1,6 @@
 -- The table numbers of the three widths obey 01's rule, which is one computed test; and m_1 is the largest of them.
-use Rattle.integers.specs.Kit.{◌≡◌, refl, Bool, ◌||◌, ℕ, suc, ◌+◌, ◌*◌, ◌^◌, ◌≤◌, ◌<◌, T, eqb, leb, lit≤, nat_abs}
+use Rattle.std.specs.Prelude.{◌≡◌, ◌||◌, ◌+◌, ◌*◌, ◌^◌, ◌≤◌, ◌<◌}
+use Rattle.integers.specs.Kit.{refl, Bool, ℕ, suc, T, eqb, leb, lit≤, nat_abs}
 use mathlib.Core.Logic.{⊎_elim}
 use native.Mathlib.Nat.{zero-lt-suc}
 use lib.Dec.{leb→le}

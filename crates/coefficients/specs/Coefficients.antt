@@ -1,5 +1,6 @@
 -- The coefficients of a set of elements, and how near they are to their parts of the values (01, "Rounding at a width"), for any number of dimensions.
-use Rattle.integers.specs.Kit.{List, ℕ, ◌<◌, ℤ, pos, get_or}
+use Rattle.std.specs.Prelude.{◌<◌}
+use Rattle.integers.specs.Kit.{List, ℕ, ℤ, pos, get_or}
 use Rattle.integers.specs.Table.{table}
 use Rattle.limits.specs.Limits.{places_in, sample_limit, halvings_in, distance_numerator_in}
 use Rattle.rounding_error.specs.Value.{Near}

@@ -1,5 +1,6 @@
 -- What the functions behind `round` ask, which is that its causes of refusal were ruled out, and how far N and its terms go.
-use Rattle.integers.specs.Kit.{◌≡◌, List, ℕ, suc, ◌*◌, ◌%◌, ◌^◌, ◌≤◌, ◌<◌, T, ℤ, pos, ◌+ℤ◌, ◌*ℤ◌, length}
+use Rattle.std.specs.Prelude.{◌≡◌, ◌*◌, ◌%◌, ◌^◌, ◌≤◌, ◌<◌, ◌+ℤ◌, ◌*ℤ◌}
+use Rattle.integers.specs.Kit.{List, ℕ, suc, T, ℤ, pos, length}
 use Rattle.integers.specs.Sum.{sum}
 use Rattle.ring.specs.Element.{component, magnitudes}
 use Rattle.limits.specs.Limits.{sample_limit, magnitudes_limit_in}

@@ -1,5 +1,6 @@
 -- The three widths and their table numbers (01, "Rounding at a width").
-use Rattle.integers.specs.Kit.{Bool, cond, ◌||◌, List, [], ◌∷◌, ℕ, eqb, ℤ, pos, nat_abs}
+use Rattle.std.specs.Prelude.{◌||◌, ◌∷◌}
+use Rattle.integers.specs.Kit.{Bool, cond, List, [], ℕ, eqb, ℤ, pos, nat_abs}
 use Rattle.ring.specs.Element.{component}
 
 -- "b is 11, 20 or 26"

@@ -5,7 +5,8 @@
 // bits the products would wrap at each b.
 #![tactic(auto)]
 
-ghost use Rattle.integers.specs.Kit.{◌≡◌, false, ◌^◌, ◌<◌, T, pos, ◌+ℤ◌, ◌*ℤ◌};
+ghost use Rattle.std.specs.Prelude.{◌≡◌, ◌^◌, ◌<◌, ◌+ℤ◌, ◌*ℤ◌};
+ghost use Rattle.integers.specs.Kit.{false, T, pos};
 ghost use Rattle.std.specs.Int.{w64};
 ghost use Rattle.std.proofs.Common.{SFits};
 ghost use Rattle.limits.specs.Limits.{halvings, places};

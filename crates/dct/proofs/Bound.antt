@@ -1,5 +1,6 @@
 -- The magnitudes of an element's components sum to at most S · 8 · 16^(d-1) in d dimensions, where no sample's magnitude is above S.
-use Rattle.integers.specs.Kit.{◌≡◌, sym, ap, Bool, List, ℕ, zero, suc, ◌+◌, ◌*◌, ◌/◌, ◌%◌, ◌^◌, ◌≤◌, ◌<◌, T, leb, ℤ, pos}
+use Rattle.std.specs.Prelude.{◌≡◌, ◌+◌, ◌*◌, ◌/◌, ◌%◌, ◌^◌, ◌≤◌, ◌<◌}
+use Rattle.integers.specs.Kit.{sym, ap, Bool, List, ℕ, zero, suc, T, leb, ℤ, pos}
 use native.Mathlib.Nat.{le_trans, le_of_eq, mul-le-mul_left, mul-le-mul_right, mod-lt, mod-eq_of_lt, pow-suc, zero-lt-suc}
 use native.Mathlib.Omega.{arith}
 use lib.Dec.{leb→le}

@@ -1,5 +1,6 @@
 -- Which components of a block's elements are 0, by the classes of their frequencies (01, "Consequences to be shown").
-use Rattle.integers.specs.Kit.{◌≡◌, refl, sym, ap, ◌∙◌, Bool, true, false, cond, ◌||◌, List, [], ◌∷◌, ℕ, zero, suc, ◌<◌, T, eqb, ℤ, pos, ◌+ℤ◌, ◌*ℤ◌, get_or}
+use Rattle.std.specs.Prelude.{◌≡◌, ◌||◌, ◌∷◌, ◌<◌, ◌+ℤ◌, ◌*ℤ◌}
+use Rattle.integers.specs.Kit.{refl, sym, ap, ◌∙◌, Bool, true, false, cond, List, [], ℕ, zero, suc, T, eqb, ℤ, pos, get_or}
 use mathlib.Core.Bool.{true≢false}
 use native.Mathlib.Omega.{arith}
 use lib.IntN.{*ℤ-zero}

@@ -1,6 +1,7 @@
 -- Conjugate rows: the step of the conjugates of a row is made of the conjugates of its step. A row of whole numbers is its own conjugate, so
 -- that one frequency of it gives others.
-use Rattle.integers.specs.Kit.{◌≡◌, sym, ap, ap₂, ◌∙◌, Bool, List, [], ℕ, zero, suc, ◌/◌, ◌%◌, ◌^◌, ◌<◌, T, ltb, ℤ, pos, ◌*ℤ◌}
+use Rattle.std.specs.Prelude.{◌≡◌, ◌/◌, ◌%◌, ◌^◌, ◌<◌, ◌*ℤ◌}
+use Rattle.integers.specs.Kit.{sym, ap, ap₂, ◌∙◌, Bool, List, [], ℕ, zero, suc, T, ltb, ℤ, pos}
 use native.Mathlib.Omega.{arith}
 use lib.Dec.{ltb→lt}
 use Rattle.integers.specs.Test.{every, eq_list, every₂}

@@ -1,5 +1,6 @@
 -- The element in other words: one dimension at a time, 01's double sum, columns and then rows, and T.81's formula.
-use Rattle.integers.specs.Kit.{◌≡◌, sym, ap, ap₂, ◌∙◌, List, [], ℕ, zero, suc, ◌+◌, ◌*◌, ◌/◌, ◌%◌, ◌^◌, ◌<◌, ℤ, pos}
+use Rattle.std.specs.Prelude.{◌≡◌, ◌+◌, ◌*◌, ◌/◌, ◌%◌, ◌^◌, ◌<◌}
+use Rattle.integers.specs.Kit.{sym, ap, ap₂, ◌∙◌, List, [], ℕ, zero, suc, ℤ, pos}
 use native.Mathlib.Nat.{mod-eq_of_lt, mul-zero, mul_comm as times_comm}
 use native.Mathlib.Omega.{arith}
 use Rattle.integers.specs.Sum.{sum}

@@ -1,6 +1,7 @@
 -- The factors: they and their products have all eight components; the product of two by their angles; the factors of d + 1 dimensions by the last digits
 -- of the indices. And the elements of a multiple of a block.
-use Rattle.integers.specs.Kit.{◌≡◌, sym, ap, ◌∙◌, List, [], ℕ, zero, suc, ◌+◌, ◌*◌, ◌/◌, ◌%◌, ◌^◌, ◌<◌, ℤ, pos, ◌+ℤ◌, ◌-ℤ◌, ◌*ℤ◌}
+use Rattle.std.specs.Prelude.{◌≡◌, ◌+◌, ◌*◌, ◌/◌, ◌%◌, ◌^◌, ◌<◌, ◌+ℤ◌, ◌-ℤ◌, ◌*ℤ◌}
+use Rattle.integers.specs.Kit.{sym, ap, ◌∙◌, List, [], ℕ, zero, suc, ℤ, pos}
 use native.Mathlib.Nat.{pow-suc, one-le-pow, zero-lt-suc}
 use native.Mathlib.Omega.{arith}
 use Rattle.integers.specs.Sum.{sum}

@@ -1,5 +1,6 @@
 -- The first element of a block of two dimensions is twice the sum of its samples, and nothing else (02, request 5).
-use Rattle.integers.specs.Kit.{◌≡◌, refl, sym, ap, ◌∙◌, [], ℕ, ◌^◌, ℤ, pos, ◌+ℤ◌, ◌*ℤ◌}
+use Rattle.std.specs.Prelude.{◌≡◌, ◌^◌, ◌+ℤ◌, ◌*ℤ◌}
+use Rattle.integers.specs.Kit.{refl, sym, ap, ◌∙◌, [], ℕ, ℤ, pos}
 use lib.IntN.{zero-*ℤ}
 use Rattle.integers.specs.Sum.{sum}
 use Rattle.integers.proofs.Integer.{+ℤ-*ℤ}

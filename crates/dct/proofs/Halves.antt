@@ -1,6 +1,7 @@
 -- The step by halves: butterflies, which are the sums x_n + x_(7-n) and the differences x_n - x_(7-n), then the even frequencies from the sums,
 -- and the odd ones from the differences.
-use Rattle.integers.specs.Kit.{◌≡◌, sym, ap, ◌∙◌, Bool, List, [], ℕ, ◌+◌, ◌*◌, ◌-◌, ◌%◌, ◌<◌, T, ℤ, pos, negsuc}
+use Rattle.std.specs.Prelude.{◌≡◌, ◌+◌, ◌*◌, ◌-◌, ◌%◌, ◌<◌}
+use Rattle.integers.specs.Kit.{sym, ap, ◌∙◌, Bool, List, [], ℕ, T, ℤ, pos, negsuc}
 use native.Mathlib.Omega.{arith}
 use Rattle.integers.specs.Sum.{sum}
 use Rattle.integers.specs.Test.{eq_list, every₂}

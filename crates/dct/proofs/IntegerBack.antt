@@ -1,6 +1,7 @@
 -- The transpose of the step, as far as whole numbers are asked of it: by halves, and what it makes of a step; and the sum that restores a column
 -- from the components by which it is known.
-use Rattle.integers.specs.Kit.{◌≡◌, refl, sym, ap, ap₂, ◌∙◌, Bool, cond, List, [], ℕ, ◌+◌, ◌*◌, ◌-◌, ◌%◌, ◌<◌, T, eqb, ltb, ℤ, pos, ◌+ℤ◌, ◌-ℤ◌, ◌*ℤ◌, neg_ℤ}
+use Rattle.std.specs.Prelude.{◌≡◌, ◌+◌, ◌*◌, ◌-◌, ◌%◌, ◌<◌, ◌+ℤ◌, ◌-ℤ◌, ◌*ℤ◌}
+use Rattle.integers.specs.Kit.{refl, sym, ap, ap₂, ◌∙◌, Bool, cond, List, [], ℕ, T, eqb, ltb, ℤ, pos, neg_ℤ}
 use native.Mathlib.Nat.{zero-lt-suc}
 use native.Mathlib.Omega.{arith}
 use lib.Dec.{ltb→lt}

@@ -1,6 +1,7 @@
 -- The way back: the elements of a block, each times its factors at one place, sum to 16^d times the sample there. So a block is known by
 -- its elements. For one dimension the same holds of a row of any elements, in place of samples.
-use Rattle.integers.specs.Kit.{◌≡◌, refl, sym, ap, ◌∙◌, List, [], ℕ, ◌^◌, ◌<◌, ℤ, pos, ◌+ℤ◌, ◌*ℤ◌}
+use Rattle.std.specs.Prelude.{◌≡◌, ◌^◌, ◌<◌, ◌+ℤ◌, ◌*ℤ◌}
+use Rattle.integers.specs.Kit.{refl, sym, ap, ◌∙◌, List, [], ℕ, ℤ, pos}
 use native.Mathlib.Nat.{one-le-pow, zero-lt-suc}
 use native.Mathlib.Omega.{arith}
 use lib.IntN.{zero-*ℤ}

@@ -1,5 +1,6 @@
 -- The factors are orthogonal: in one dimension by a computed test, in d dimensions by induction.
-use Rattle.integers.specs.Kit.{◌≡◌, sym, ap, ap₂, ◌∙◌, Bool, List, [], ℕ, zero, suc, ◌+◌, ◌*◌, ◌/◌, ◌%◌, ◌^◌, ◌<◌, T, ℤ, pos, ◌*ℤ◌}
+use Rattle.std.specs.Prelude.{◌≡◌, ◌+◌, ◌*◌, ◌/◌, ◌%◌, ◌^◌, ◌<◌, ◌*ℤ◌}
+use Rattle.integers.specs.Kit.{sym, ap, ap₂, ◌∙◌, Bool, List, [], ℕ, zero, suc, T, ℤ, pos}
 use native.Mathlib.Nat.{pow-suc}
 use native.Mathlib.Decide.{ℕ_discrete}
 use native.Mathlib.Omega.{arith}

@@ -1,6 +1,7 @@
 -- A row by its parts. The step is linear over the ring, so that the step of a row is the sum, over the components that its elements have, of 1 or
 -- c_k, which the component counts, times the step of the whole numbers that stand there.
-use Rattle.integers.specs.Kit.{◌≡◌, sym, ap, ap₂, ◌∙◌, List, [], ℕ, zero, suc, ◌<◌, T, ℤ, pos}
+use Rattle.std.specs.Prelude.{◌≡◌, ◌<◌}
+use Rattle.integers.specs.Kit.{sym, ap, ap₂, ◌∙◌, List, [], ℕ, zero, suc, T, ℤ, pos}
 use native.Mathlib.Omega.{arith}
 use Rattle.integers.specs.Sum.{sum}
 use Rattle.integers.specs.Test.{eq_list}

@@ -1,6 +1,7 @@
 -- What the way back sums (01, "What the library does"): over all elements of a block of d dimensions, over those of one row, and over the few
 -- whole numbers by which a column of a block is known; and, for the theorem that it is an inverse, the Gram matrix of the factors.
-use Rattle.integers.specs.Kit.{cond, List, [], ◌∷◌, ℕ, ◌+◌, ◌*◌, ◌^◌, eqb, ℤ, pos, ◌+ℤ◌, ◌*ℤ◌, get_or}
+use Rattle.std.specs.Prelude.{◌∷◌, ◌+◌, ◌*◌, ◌^◌, ◌+ℤ◌, ◌*ℤ◌}
+use Rattle.integers.specs.Kit.{cond, List, [], ℕ, eqb, ℤ, pos, get_or}
 use Rattle.integers.specs.Sum.{sum}
 use Rattle.ring.specs.Element.{component, add, mul}
 use Rattle.ring.specs.Maps.{dot}

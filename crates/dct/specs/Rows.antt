@@ -1,5 +1,6 @@
 -- How the rows of elements that a pass takes and makes hang together: their parts, and their conjugates.
-use Rattle.integers.specs.Kit.{Bool, List, [], ◌∷◌, ℕ, zero, suc, ◌+◌, ◌*◌, ◌/◌, ◌%◌, ℤ, pos, neg_ℤ, ◌*ℤ◌, get_or}
+use Rattle.std.specs.Prelude.{◌∷◌, ◌+◌, ◌*◌, ◌/◌, ◌%◌, ◌*ℤ◌}
+use Rattle.integers.specs.Kit.{Bool, List, [], ℕ, zero, suc, ℤ, pos, neg_ℤ, get_or}
 use Rattle.integers.specs.Sum.{sum}
 use Rattle.integers.specs.Test.{every, eq_list}
 use Rattle.ring.specs.Element.{component, add, scale, only}

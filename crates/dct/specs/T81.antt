@@ -2,7 +2,8 @@
 -- and u across, y and v down; 01 has (u,v) the other way round, and so has this file: i and u are T.81's y and v, j and v its x and u.
 -- S(u,v) = 1/4 · C(u) · C(v) · sum over i, j of s(i,j) · cos((2i+1)·u·π/16) · cos((2j+1)·v·π/16), C(0) = 1/√2, and C(k) = 1 for other k.
 -- The ring has 2·cos, and 2·C(0) = √2 = c_4, and neither cos nor C(0). Four doubled factors are 16, and with the 1/4 this is 64 times S.
-use Rattle.integers.specs.Kit.{List, [], ℕ, zero, suc, ◌+◌, ◌*◌, ℤ, pos}
+use Rattle.std.specs.Prelude.{◌+◌, ◌*◌}
+use Rattle.integers.specs.Kit.{List, [], ℕ, zero, suc, ℤ, pos}
 use Rattle.integers.specs.Sum.{sum}
 use Rattle.ring.specs.Element.{add, scale, integer, cosine, mul}
 

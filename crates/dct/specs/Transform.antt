@@ -2,7 +2,8 @@
 -- A block of d dimensions has 8^d samples, x 0 to x (8^d - 1). The base-8 digits of a sample's index are its places along the
 -- dimensions, those of an element's index its frequencies: in two dimensions sample (i,j), row i and column j, is x (8i+j), and the
 -- element at (u,v), u counting down and v across, has the index 8u+v.
-use Rattle.integers.specs.Kit.{Bool, false, cond, ◌&&◌, ◌||◌, List, [], ◌∷◌, ℕ, zero, suc, ◌+◌, ◌*◌, ◌/◌, ◌%◌, ◌^◌, ◌≤◌, ◌<◌, eqb, ℤ, pos, neg_ℤ, nat_abs, get_or}
+use Rattle.std.specs.Prelude.{◌&&◌, ◌||◌, ◌∷◌, ◌+◌, ◌*◌, ◌/◌, ◌%◌, ◌^◌, ◌≤◌, ◌<◌}
+use Rattle.integers.specs.Kit.{Bool, false, cond, List, [], ℕ, zero, suc, eqb, ℤ, pos, neg_ℤ, nat_abs, get_or}
 use Rattle.integers.specs.Sum.{sum}
 use Rattle.ring.specs.Element.{add, scale, integer, cosine, mul}
 

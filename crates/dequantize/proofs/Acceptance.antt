@@ -1,5 +1,6 @@
 -- Which calls of dequantize are accepted: those with 64 values, 64 steps in range, room for 64 coefficients, and no product beyond its limit.
-use Rattle.integers.specs.Kit.{◌≡◌, List, ℕ, ℤ, length}
+use Rattle.std.specs.Prelude.{◌≡◌}
+use Rattle.integers.specs.Kit.{List, ℕ, ℤ, length}
 use Rattle.answers.specs.Answer.{accept}
 use Rattle.answers.specs.Job.{job_returned, Accepts}
 use Rattle.dequantize.specs.Dequantize.{dequantized_beyond_at, dequantize_job}

@@ -1,5 +1,6 @@
 -- What calls of dequantize leave, in 02's words (request 2), and what they do after quantize and before it.
-use Rattle.integers.specs.Kit.{◌≡◌, sym, ap, ◌∙◌, List, ℕ, ◌*◌, ◌≤◌, ◌<◌, ℤ, pos, ◌-ℤ◌, nat_abs, length, get_or}
+use Rattle.std.specs.Prelude.{◌≡◌, ◌*◌, ◌≤◌, ◌<◌, ◌-ℤ◌}
+use Rattle.integers.specs.Kit.{sym, ap, ◌∙◌, List, ℕ, ℤ, pos, nat_abs, length, get_or}
 use Rattle.integers.proofs.Ranges.{not_beyond, within_limit}
 use Rattle.integers.proofs.Tables.{length-table, get_d_table, is_table}
 use Rattle.limits.specs.Limits.{places, coefficient_limit, dequantized_limit}

@@ -1,5 +1,6 @@
 -- What the last loop of `dequantize` asks.
-use Rattle.integers.specs.Kit.{◌≡◌, false, List, ℕ, ◌<◌, ℤ, length}
+use Rattle.std.specs.Prelude.{◌≡◌, ◌<◌}
+use Rattle.integers.specs.Kit.{false, List, ℕ, ℤ, length}
 use Rattle.integers.specs.Range.{beyond_at}
 use Rattle.limits.specs.Limits.{places, dequantized_limit}
 

@@ -4,7 +4,8 @@
 // product is made once, in 64 bits, before it is known whether any is beyond its limit.
 #![tactic(auto)]
 
-ghost use Rattle.integers.specs.Kit.{◌≡◌, length};
+ghost use Rattle.std.specs.Prelude.{◌≡◌};
+ghost use Rattle.integers.specs.Kit.{length};
 ghost use Rattle.integers.specs.Range.{beyond_at};
 ghost use Rattle.integers.specs.Search.{any, first};
 ghost use Rattle.limits.specs.Limits.{dequantized_limit, places};

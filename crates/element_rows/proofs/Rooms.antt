@@ -1,5 +1,6 @@
 -- Rows of elements: how far the operations let them grow, and arrays that are written out.
-use Rattle.integers.specs.Kit.{◌≡◌, refl, sym, ap₂, ◌∙◌, List, [], ◌∷◌, ℕ, ◌+◌, ◌*◌, ◌/◌, ◌%◌, ◌≤◌, ◌<◌, ℤ, pos, negsuc, neg_ℤ, nat_abs}
+use Rattle.std.specs.Prelude.{◌≡◌, ◌∷◌, ◌+◌, ◌*◌, ◌/◌, ◌%◌, ◌≤◌, ◌<◌}
+use Rattle.integers.specs.Kit.{refl, sym, ap₂, ◌∙◌, List, [], ℕ, ℤ, pos, negsuc, neg_ℤ, nat_abs}
 use native.Mathlib.Decide.{ℕ_discrete}
 use native.Mathlib.Omega.{arith}
 use Rattle.integers.specs.Sum.{sum}

@@ -1,5 +1,6 @@
 -- Room for the sums of a step: bounds on the elements of a row.
-use Rattle.integers.specs.Kit.{◌≡◌, List, ℕ, ◌<◌, ℤ, length}
+use Rattle.std.specs.Prelude.{◌≡◌, ◌<◌}
+use Rattle.integers.specs.Kit.{List, ℕ, ℤ, length}
 use Rattle.elements.specs.declared.Element.{Element}
 use Rattle.elements.specs.Bound.{Within}
 use Rattle.elements.specs.Buffer.{item}

@@ -1,7 +1,8 @@
 // Rows of elements, and halves of them: what the 8-point steps are made of. `Room` says how far the elements of a row may go.
 #![tactic(auto)]
 
-ghost use Rattle.integers.specs.Kit.{◌≡◌, ◌*◌, ◌+◌, ◌<◌, pos};
+ghost use Rattle.std.specs.Prelude.{◌≡◌, ◌*◌, ◌+◌, ◌<◌};
+ghost use Rattle.integers.specs.Kit.{pos};
 ghost use Rattle.ring.specs.Element as ring;
 ghost use Rattle.elements.specs.Bound.{Within, headroom};
 ghost use Rattle.elements.specs.Buffer.{Row, item, row};

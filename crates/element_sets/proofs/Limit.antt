@@ -1,5 +1,6 @@
 -- The test of cause 4 as the code makes it, and that the accepted sets are those in which it finds no element; a block's is one.
-use Rattle.integers.specs.Kit.{◌≡◌, refl, true, false, List, ℕ, suc, ◌*◌, ◌≤◌, ◌<◌, ℤ, length}
+use Rattle.std.specs.Prelude.{◌≡◌, ◌*◌, ◌≤◌, ◌<◌}
+use Rattle.integers.specs.Kit.{refl, true, false, List, ℕ, suc, ℤ, length}
 use native.Mathlib.Nat.{le_trans}
 use borrow.Author.Tests.{lt-ltb, le-ltb, ltb-false}
 use Rattle.limits.specs.Limits.{places_in, sample_limit, magnitudes_limit_in}

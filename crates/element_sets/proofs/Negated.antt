@@ -1,5 +1,6 @@
 -- Sets with all components negated: which elements they have, and that magnitudes stay.
-use Rattle.integers.specs.Kit.{◌≡◌, ◌∙◌, List, ℕ, ◌+◌, ◌*◌, ◌/◌, ◌%◌, ◌^◌, ◌≤◌, ◌<◌, ℤ, pos, negsuc, neg_ℤ, nat_abs, get_or}
+use Rattle.std.specs.Prelude.{◌≡◌, ◌+◌, ◌*◌, ◌/◌, ◌%◌, ◌^◌, ◌≤◌, ◌<◌}
+use Rattle.integers.specs.Kit.{◌∙◌, List, ℕ, ℤ, pos, negsuc, neg_ℤ, nat_abs, get_or}
 use native.Mathlib.Nat.{one-mul, le_trans, lt_of_le_of_lt}
 use native.Mathlib.Omega.{arith}
 use mir.Syntax.{w32}

@@ -1,5 +1,6 @@
 -- Accepted sets (01, "Rounding at a width"): n elements in a buffer, none of whose magnitudes sum above the limit L.
-use Rattle.integers.specs.Kit.{◌≡◌, Bool, List, ℕ, ◌*◌, ◌≤◌, ◌<◌, ltb, ℤ, length}
+use Rattle.std.specs.Prelude.{◌≡◌, ◌*◌, ◌≤◌, ◌<◌}
+use Rattle.integers.specs.Kit.{Bool, List, ℕ, ltb, ℤ, length}
 use Rattle.ring.specs.Element.{magnitudes}
 use Rattle.elements.specs.Buffer.{element_at}
 

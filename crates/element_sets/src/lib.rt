@@ -4,7 +4,8 @@
 // `first_above` finds the element that cause 4 names. The sums are u64: eight magnitudes of 2^31 each do not fit 32 bits.
 #![tactic(auto)]
 
-ghost use Rattle.integers.specs.Kit.{◌≡◌, ◌*◌, length};
+ghost use Rattle.std.specs.Prelude.{◌≡◌, ◌*◌};
+ghost use Rattle.integers.specs.Kit.{length};
 ghost use Rattle.integers.specs.Search.{first};
 ghost use Rattle.ring.specs.Element as ring;
 ghost use Rattle.element_sets.specs.Sets.{above_limit};

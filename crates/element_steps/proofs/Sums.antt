@@ -1,5 +1,6 @@
 -- What a step over a row is summed of, part by part, and the room for it. A half of a row has the frequencies g 0 to g 3.
-use Rattle.integers.specs.Kit.{◌≡◌, sym, ap, ap₂, ◌∙◌, List, [], ◌∷◌, ℕ, zero, suc, ◌+◌, ◌*◌, ◌≤◌, ◌<◌, lit<, lit≤, ℤ, pos, length}
+use Rattle.std.specs.Prelude.{◌≡◌, ◌∷◌, ◌+◌, ◌*◌, ◌≤◌, ◌<◌}
+use Rattle.integers.specs.Kit.{sym, ap, ap₂, ◌∙◌, List, [], ℕ, zero, suc, lit<, lit≤, ℤ, pos, length}
 use native.Mathlib.Omega.{arith}
 use Rattle.integers.specs.Sum.{sum}
 use Rattle.integers.proofs.Sums.{sum_cong, swap}

@@ -1,5 +1,6 @@
 -- Rows of elements that have only some components, the others being 0, and what their steps are summed of.
-use Rattle.integers.specs.Kit.{◌≡◌, List, [], ℕ, ◌<◌, ℤ, pos, length}
+use Rattle.std.specs.Prelude.{◌≡◌, ◌<◌}
+use Rattle.integers.specs.Kit.{List, [], ℕ, ℤ, pos, length}
 use Rattle.integers.specs.Sum.{sum}
 use Rattle.ring.specs.Element.{add, cosine, mul}
 use Rattle.ring.specs.Maps.{part}

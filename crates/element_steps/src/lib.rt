@@ -8,7 +8,8 @@
 // 32 bits suffice: the parts of 23 bits need 27 after the step, 28 after the product, and 30 after the sum of four.
 #![tactic(auto)]
 
-ghost use Rattle.integers.specs.Kit.{◌≡◌, [], ◌∷◌, ◌*◌, ◌+◌, ◌<◌};
+ghost use Rattle.std.specs.Prelude.{◌≡◌, ◌∷◌, ◌*◌, ◌+◌, ◌<◌};
+ghost use Rattle.integers.specs.Kit.{[]};
 ghost use Rattle.ring.specs.Element as ring;
 ghost use Rattle.ring.specs.Maps as maps;
 ghost use Rattle.dct.specs.Rows.{conjugate_row, fours, odds, twos};

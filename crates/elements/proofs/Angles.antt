@@ -1,6 +1,7 @@
 -- A cosine c_m, for m no multiple of 8, is one of c_1 to c_7 or its negative: what that makes of a product of a whole number with it, and of the
 -- component along it.
-use Rattle.integers.specs.Kit.{◌≡◌, refl, sym, ap, ◌∙◌, Bool, true, false, cond, ◌||◌, List, ℕ, ◌%◌, ◌≤◌, ◌<◌, T, eqb, ltb, ℤ, pos, ◌*ℤ◌, neg_ℤ, nat_abs}
+use Rattle.std.specs.Prelude.{◌≡◌, ◌||◌, ◌%◌, ◌≤◌, ◌<◌, ◌*ℤ◌}
+use Rattle.integers.specs.Kit.{refl, sym, ap, ◌∙◌, Bool, true, false, cond, List, ℕ, T, eqb, ltb, ℤ, pos, neg_ℤ, nat_abs}
 use native.Mathlib.Nat.{le_of_eq, le_trans}
 use native.Mathlib.Omega.{arith}
 use lib.IntN.{*ℤ_comm}

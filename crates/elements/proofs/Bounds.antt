@@ -1,6 +1,7 @@
 -- Bounds on components: how far a product with c_m lets them grow, which is to twice the bound, and what they give the code's own sums.
 -- `Componentwise` has sums and differences, which add the bounds.
-use Rattle.integers.specs.Kit.{◌≡◌, ◌∙◌, Bool, true, false, cond, List, [], ◌∷◌, ℕ, zero, suc, ◌+◌, ◌-◌, ◌%◌, ◌≤◌, ◌<◌, T, eqb, ltb, leb, lit<, ℤ, pos, ◌+ℤ◌, ◌-ℤ◌, neg_ℤ, nat_abs}
+use Rattle.std.specs.Prelude.{◌≡◌, ◌∷◌, ◌+◌, ◌-◌, ◌%◌, ◌≤◌, ◌<◌, ◌+ℤ◌, ◌-ℤ◌}
+use Rattle.integers.specs.Kit.{◌∙◌, Bool, true, false, cond, List, [], ℕ, zero, suc, T, eqb, ltb, leb, lit<, ℤ, pos, neg_ℤ, nat_abs}
 use Prim.Native.Nat.{zero-le}
 use native.Mathlib.Nat.{le_refl, le_trans}
 use native.Mathlib.Decide.{dec_lt}

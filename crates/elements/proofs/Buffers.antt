@@ -1,5 +1,6 @@
 -- Storing an element in a buffer, as a loop over its components does it; and element after element.
-use Rattle.integers.specs.Kit.{◌≡◌, refl, sym, ap, ◌∙◌, cond, List, ℕ, ◌+◌, ◌*◌, ◌/◌, ◌%◌, ◌≤◌, ◌<◌, eqb, ℤ, pos, length, get_or, set}
+use Rattle.std.specs.Prelude.{◌≡◌, ◌+◌, ◌*◌, ◌/◌, ◌%◌, ◌≤◌, ◌<◌}
+use Rattle.integers.specs.Kit.{refl, sym, ap, ◌∙◌, cond, List, ℕ, eqb, ℤ, pos, length, get_or, set}
 use Prim.Native.Nat.{zero-le}
 use native.Mathlib.Nat.{not-suc-le-zero}
 use native.Mathlib.Decide.{ℕ_discrete}

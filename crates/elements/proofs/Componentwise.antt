@@ -1,5 +1,6 @@
 -- Sums and negatives of elements, and an element of one component, as the code makes them: component by component.
-use Rattle.integers.specs.Kit.{◌≡◌, ◌∙◌, cond, List, [], ℕ, zero, suc, ◌+◌, ◌*◌, ◌<◌, eqb, ℤ, pos, negsuc, ◌+ℤ◌, neg_ℤ, set, replicate}
+use Rattle.std.specs.Prelude.{◌≡◌, ◌+◌, ◌*◌, ◌<◌, ◌+ℤ◌}
+use Rattle.integers.specs.Kit.{◌∙◌, cond, List, [], ℕ, zero, suc, eqb, ℤ, pos, negsuc, neg_ℤ, set, replicate}
 use Prim.Native.Nat.{zero-le}
 use native.Mathlib.Nat.{le_trans, add-le-add, suc-mul}
 use native.Mathlib.Decide.{ℕ_discrete}

@@ -1,5 +1,6 @@
 -- Multiplying by c_k through the continued components.
-use Rattle.integers.specs.Kit.{◌≡◌, Bool, List, ℕ, ◌+◌, ◌-◌, ◌≤◌, ◌<◌, T, ltb, ℤ, pos, ◌+ℤ◌, neg_ℤ}
+use Rattle.std.specs.Prelude.{◌≡◌, ◌+◌, ◌-◌, ◌≤◌, ◌<◌, ◌+ℤ◌}
+use Rattle.integers.specs.Kit.{Bool, List, ℕ, T, ltb, ℤ, pos, neg_ℤ}
 use native.Mathlib.Omega.{arith}
 use borrow.Author.Tests.{lt-ltb, le-ltb}
 use Rattle.integers.specs.Table.{table}

@@ -1,5 +1,6 @@
 -- Bounds under which the operations on elements, whose components 01 has in signed 32-bit numbers, do not wrap.
-use Rattle.integers.specs.Kit.{List, ℕ, ◌-◌, ◌^◌, ◌≤◌, ℤ, nat_abs}
+use Rattle.std.specs.Prelude.{◌-◌, ◌^◌, ◌≤◌}
+use Rattle.integers.specs.Kit.{List, ℕ, ℤ, nat_abs}
 use Rattle.ring.specs.Element.{component}
 
 -- no component's magnitude is above B

@@ -1,5 +1,6 @@
 -- Elements in a buffer of numbers, in an array of records, and in eight rows of eight (01, "Elements").
-use Rattle.integers.specs.Kit.{◌≡◌, cond, List, [], ℕ, ◌+◌, ◌*◌, ◌/◌, ◌%◌, ◌<◌, eqb, ℤ, pos, length, get_or}
+use Rattle.std.specs.Prelude.{◌≡◌, ◌+◌, ◌*◌, ◌/◌, ◌%◌, ◌<◌}
+use Rattle.integers.specs.Kit.{cond, List, [], ℕ, eqb, ℤ, pos, length, get_or}
 use Rattle.integers.specs.Table.{table}
 use Rattle.ring.specs.Element.{component}
 use Rattle.elements.specs.declared.Element.{Element}

@@ -8,7 +8,8 @@
 // number, which no angle of a step is.
 #![tactic(auto)]
 
-ghost use Rattle.integers.specs.Kit.{◌≡◌, ◌%◌, ◌*◌, ◌+◌, ◌<◌, ◌≤◌, pos, nat_abs, ◌*ℤ◌, length};
+ghost use Rattle.std.specs.Prelude.{◌≡◌, ◌%◌, ◌*◌, ◌+◌, ◌<◌, ◌≤◌, ◌*ℤ◌};
+ghost use Rattle.integers.specs.Kit.{pos, nat_abs, length};
 ghost use Rattle.std.specs.Int.{w32};
 ghost use Rattle.std.proofs.Common.{SFits};
 ghost use Rattle.ring.specs.Element as ring;

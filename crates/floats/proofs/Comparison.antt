@@ -1,5 +1,6 @@
 -- The order of floats is that of the numbers that they are made of.
-use Rattle.integers.specs.Kit.{◌≡◌, refl, sym, ap, ap₂, ◌∙◌, Bool, true, false, ◌||◌, ℕ, suc, ◌+◌, ◌*◌, ◌^◌, ◌≤◌, ◌<◌, T, ltb, eqb, ℤ, pos, negsuc, nat_abs}
+use Rattle.std.specs.Prelude.{◌≡◌, ◌||◌, ◌+◌, ◌*◌, ◌^◌, ◌≤◌, ◌<◌}
+use Rattle.integers.specs.Kit.{refl, sym, ap, ap₂, ◌∙◌, Bool, true, false, ℕ, suc, T, ltb, eqb, ℤ, pos, negsuc, nat_abs}
 use mathlib.Core.Bool.{beq}
 use native.Mathlib.Nat.{mul_assoc, mul_comm, mul_left_comm, mul-pos, zero-mul, add-mul, mul-lt-mul_of_pos_right, mul-le-mul_right}
 use native.Mathlib.Decide.{dec_lt}

@@ -1,5 +1,6 @@
 -- Examples, computed from the definitions: the bits of the floats of 0, 1, -1, 8, -237 and both limits; and that zero is plus zero.
-use Rattle.integers.specs.Kit.{◌≡◌, refl, List, [], ◌∷◌, ℕ, ℤ, pos, negsuc}
+use Rattle.std.specs.Prelude.{◌≡◌, ◌∷◌}
+use Rattle.integers.specs.Kit.{refl, List, [], ℕ, ℤ, pos, negsuc}
 use lib.Ieee.{Float, binary32, round, to_bits}
 use Rattle.floats.specs.Fraction.{fraction, coefficient_float, mean_grey, plus_zero}
 

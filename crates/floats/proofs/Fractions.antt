@@ -1,5 +1,6 @@
 -- A number over a power of two as a float: it is exact, and one division makes it.
-use Rattle.integers.specs.Kit.{◌≡◌, refl, sym, ap, ◌∙◌, Bool, true, false, ℕ, suc, ◌+◌, ◌-◌, ◌*◌, ◌^◌, ◌≤◌, ◌<◌, T, lit<, ℤ, pos, negsuc, nat_abs}
+use Rattle.std.specs.Prelude.{◌≡◌, ◌+◌, ◌-◌, ◌*◌, ◌^◌, ◌≤◌, ◌<◌}
+use Rattle.integers.specs.Kit.{refl, sym, ap, ◌∙◌, Bool, true, false, ℕ, suc, T, lit<, ℤ, pos, negsuc, nat_abs}
 use native.Mathlib.Nat.{le_of_lt, lt_of_le_of_lt, lt_of_lt_of_le, mul_assoc, mul_comm, one-mul, mul-pos}
 use native.Mathlib.Omega.{arith}
 use lib.Dec.{le→leb, lt→ltb}

@@ -1,8 +1,8 @@
 -- The viewer's 32-bit floats by their values (02, request 4), in the words of the library on IEEE 754. Of numbers below `exact_limit` in magnitude, and
 -- over 2^k with k at most 149, each is finite and exactly the fraction that it stands for, with its sign (`exact`), and their order is that of the
 -- numbers (`in_order`).
-use Rattle.integers.specs.Kit.{Bool, false, not, ℕ, ◌^◌, ℤ, pos, nat_abs}
-use Rattle.std.specs.Prelude.{Float}
+use Rattle.std.specs.Prelude.{◌^◌, Float}
+use Rattle.integers.specs.Kit.{Bool, false, not, ℕ, ℤ, pos, nat_abs}
 use Rattle.std.specs.Float.{fin, binary32}
 use Rattle.std.specs.Float.Ieee.{round, prec}
 use Rattle.std.specs.Int.Signed.{non_neg}

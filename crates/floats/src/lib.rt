@@ -2,7 +2,8 @@
 // as an f32, which is exact, divided once by a power of two, which is exact too. And the lower and the higher of two floats.
 #![tactic(auto)]
 
-ghost use Rattle.integers.specs.Kit.{◌≡◌, cond, ◌≤◌, nat_abs};
+ghost use Rattle.std.specs.Prelude.{◌≡◌, ◌≤◌};
+ghost use Rattle.integers.specs.Kit.{cond, nat_abs};
 ghost use Rattle.std.specs.Float.Ieee.{lt};
 ghost use Rattle.limits.specs.Limits.{coefficient_limit};
 ghost use Rattle.floats.specs.Fraction as spec;

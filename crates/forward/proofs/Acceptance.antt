@@ -1,5 +1,6 @@
 -- Which calls of forward are accepted: those with a block in range, and room for its elements.
-use Rattle.integers.specs.Kit.{◌≡◌, List, ℕ, suc, lit<, ℤ, length}
+use Rattle.std.specs.Prelude.{◌≡◌}
+use Rattle.integers.specs.Kit.{List, ℕ, suc, lit<, ℤ, length}
 use lib.Dec.{eqb→eq}
 use Rattle.limits.specs.Limits.{places_in, components_in, sample_limit, magnitudes_limit_in}
 use Rattle.answers.specs.Answer.{accept}

@@ -1,5 +1,6 @@
 -- What an accepted call of forward leaves, in 01's words: of a block's set first, and then of the buffer after the call.
-use Rattle.integers.specs.Kit.{◌≡◌, ap, ◌∙◌, false, List, ℕ, ◌+◌, ◌*◌, ◌≤◌, ◌<◌, ℤ, pos, get_or}
+use Rattle.std.specs.Prelude.{◌≡◌, ◌+◌, ◌*◌, ◌≤◌, ◌<◌}
+use Rattle.integers.specs.Kit.{ap, ◌∙◌, false, List, ℕ, ℤ, pos, get_or}
 use native.Mathlib.Omega.{arith}
 use Rattle.limits.specs.Limits.{places, magnitudes_limit}
 use Rattle.ring.specs.Element.{component, scale, magnitudes}

@@ -1,5 +1,6 @@
 -- The forward job of d dimensions (01, "Elements" and "Why a set or sheet is turned back"), for any buffers.
-use Rattle.integers.specs.Kit.{List, [], ◌∷◌, ℕ, ℤ, length}
+use Rattle.std.specs.Prelude.{◌∷◌}
+use Rattle.integers.specs.Kit.{List, [], ℕ, ℤ, length}
 use Rattle.integers.specs.Range.{outside_at}
 use Rattle.limits.specs.Limits.{places_in, components_in, lowest_sample, highest_sample}
 use Rattle.answers.specs.Answer.{Cause, sized, lowest, accept}

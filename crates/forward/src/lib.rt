@@ -3,7 +3,7 @@
 // `forward` takes any buffers. An accepted call leaves the exact elements; a refused one leaves the buffer as it was, and names the first cause.
 #![tactic(auto)]
 
-ghost use Rattle.integers.specs.Kit.{◌≡◌};
+ghost use Rattle.std.specs.Prelude.{◌≡◌};
 ghost use Rattle.answers.specs.Answer.{accept, answered, returned};
 ghost use Rattle.answers.specs.Job.{job_left, job_returned};
 ghost use Rattle.forward.specs.Forward.{forward_causes, forward_job};

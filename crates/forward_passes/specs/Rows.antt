@@ -1,5 +1,6 @@
 -- The rows between the two passes of forward, and the rows of elements that they leave in a buffer.
-use Rattle.integers.specs.Kit.{◌≡◌, List, ℕ, ◌/◌, ◌%◌, ◌<◌, T, ℤ, pos, length, get_or}
+use Rattle.std.specs.Prelude.{◌≡◌, ◌/◌, ◌%◌, ◌<◌}
+use Rattle.integers.specs.Kit.{List, ℕ, T, ℤ, pos, length, get_or}
 use Rattle.integers.specs.Table.{PartStored}
 use Rattle.ring.specs.Element.{component}
 use Rattle.dct.specs.Transform.{step, among}

@@ -9,7 +9,8 @@
 // `element_steps` allows for 23 before its step already.
 #![tactic(auto)]
 
-ghost use Rattle.integers.specs.Kit.{◌≡◌, [], ◌∷◌, ◌*◌, ◌+◌, ◌<◌, length};
+ghost use Rattle.std.specs.Prelude.{◌≡◌, ◌∷◌, ◌*◌, ◌+◌, ◌<◌};
+ghost use Rattle.integers.specs.Kit.{[], length};
 ghost use Rattle.integers.specs.Table.{table};
 ghost use Rattle.ring.specs.Element as ring;
 ghost use Rattle.limits.specs.Limits.{components_size, places};

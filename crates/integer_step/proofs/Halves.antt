@@ -1,5 +1,6 @@
 -- The halves of a step over whole numbers: room for their sums, and what the combinations make of them.
-use Rattle.integers.specs.Kit.{◌≡◌, ap, ◌∙◌, List, [], ℕ, ◌+◌, ◌*◌, ◌-◌, ◌<◌, lit<, lit≤, ℤ, pos, negsuc}
+use Rattle.std.specs.Prelude.{◌≡◌, ◌+◌, ◌*◌, ◌-◌, ◌<◌}
+use Rattle.integers.specs.Kit.{ap, ◌∙◌, List, [], ℕ, lit<, lit≤, ℤ, pos, negsuc}
 use native.Mathlib.Omega.{arith}
 use Rattle.integers.specs.Sum.{sum}
 use Rattle.integers.proofs.Sums.{sum_cong}

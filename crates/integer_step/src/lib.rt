@@ -9,7 +9,7 @@
 // 32 bits suffice: a component of a frequency is a sum of at most eight of the numbers, which adds three bits; they may have 27.
 #![tactic(auto)]
 
-ghost use Rattle.integers.specs.Kit.{◌%◌, ◌*◌, ◌+◌, ◌-◌, ◌<◌, ◌≡◌};
+ghost use Rattle.std.specs.Prelude.{◌%◌, ◌*◌, ◌+◌, ◌-◌, ◌<◌, ◌≡◌};
 ghost use Rattle.ring.specs.Element as ring;
 ghost use Rattle.ring.specs.Maps.{part};
 ghost use Rattle.dct.specs.Transform as dct;

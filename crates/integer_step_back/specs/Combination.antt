@@ -1,5 +1,6 @@
 -- What the halves of the transpose are made of.
-use Rattle.integers.specs.Kit.{List, ℕ, ℤ, pos, ◌+ℤ◌}
+use Rattle.std.specs.Prelude.{◌+ℤ◌}
+use Rattle.integers.specs.Kit.{List, ℕ, ℤ, pos}
 use Rattle.ring.specs.Element.{cosine}
 use Rattle.ring.specs.Maps.{dot}
 

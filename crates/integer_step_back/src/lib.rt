@@ -8,7 +8,7 @@
 // 32 bits suffice: a sum of eight numbers of 24 bits needs 27.
 #![tactic(auto)]
 
-ghost use Rattle.integers.specs.Kit.{◌≡◌, ◌%◌, ◌-◌, ◌<◌, ◌+ℤ◌};
+ghost use Rattle.std.specs.Prelude.{◌≡◌, ◌%◌, ◌-◌, ◌<◌, ◌+ℤ◌};
 ghost use Rattle.ring.specs.Element as ring;
 ghost use Rattle.dct.specs.Inverse.{half_back, integer_back};
 ghost use Rattle.elements.specs.Bound.{bit_limit, headroom};

@@ -1,5 +1,6 @@
 -- Division that rounds down.
-use Rattle.integers.specs.Kit.{◌≡◌, ap, ℕ, suc, ◌+◌, ◌*◌, ◌-◌, ◌/◌, ◌≤◌, ◌<◌, ℤ, pos, negsuc, ◌+ℤ◌, ◌*ℤ◌, nat_abs}
+use Rattle.std.specs.Prelude.{◌≡◌, ◌+◌, ◌*◌, ◌-◌, ◌/◌, ◌≤◌, ◌<◌, ◌+ℤ◌, ◌*ℤ◌}
+use Rattle.integers.specs.Kit.{ap, ℕ, suc, ℤ, pos, negsuc, nat_abs}
 use native.Mathlib.Nat.{mul-div-le, lt-mul-div-succ, mul-div_right, div-eq_of_lt-le, div-le_self}
 use native.Mathlib.Omega.{arith}
 use lib.Signed.{◌≤ℤ◌, ◌<ℤ◌, shr_z}

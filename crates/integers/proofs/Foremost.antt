@@ -1,5 +1,6 @@
 -- The foremost index in an order, as a loop that keeps the best so far finds it; there is one in every range that is not empty; and what it is.
-use Rattle.integers.specs.Kit.{◌≡◌, refl, sym, subst, ◌∙◌, Bool, true, false, cond, not, ◌&&◌, ℕ, zero, suc, ◌+◌, ◌-◌, ◌≤◌, ◌<◌, T, leb, ℤ, pos, negsuc}
+use Rattle.std.specs.Prelude.{◌≡◌, ◌&&◌, ◌+◌, ◌-◌, ◌≤◌, ◌<◌}
+use Rattle.integers.specs.Kit.{refl, sym, subst, ◌∙◌, Bool, true, false, cond, not, ℕ, zero, suc, T, leb, ℤ, pos, negsuc}
 use native.Mathlib.Nat.{le_refl, le_of_lt}
 use native.Mathlib.Decide.{dec_lt}
 use native.Mathlib.Omega.{arith}

@@ -1,7 +1,8 @@
 -- The integers as an ordered commutative ring.
 -- No tactic reads ℤ. So an integer is written as a difference of two naturals, `dif a b`, which is opaque; the rules below carry
 -- +, -, *, ≡ and ≤ over to naturals, and each law is then one call of `omega`.
-use Rattle.integers.specs.Kit.{◌≡◌, sym, ap, ◌∙◌, Bool, true, false, not, cond, ℕ, zero, suc, ◌+◌, ◌*◌, ◌-◌, ◌≤◌, ◌<◌, T, ltb, ℤ, pos, negsuc, ◌+ℤ◌, ◌-ℤ◌, ◌*ℤ◌, neg_ℤ, nat_abs}
+use Rattle.std.specs.Prelude.{◌≡◌, ◌+◌, ◌*◌, ◌-◌, ◌≤◌, ◌<◌, ◌+ℤ◌, ◌-ℤ◌, ◌*ℤ◌}
+use Rattle.integers.specs.Kit.{sym, ap, ◌∙◌, Bool, true, false, not, cond, ℕ, zero, suc, T, ltb, ℤ, pos, negsuc, neg_ℤ, nat_abs}
 use mathlib.Core.Logic.{◌↔◌, ◌⊎◌, inl, inr}
 use native.Mathlib.Nat.{eq_of_mul-eq-mul_left, mul-le-mul, mul-le-mul_left, mul-lt-mul_of_pos_left, lt_of_mul-lt-mul_left}
 use native.Mathlib.Decide.{dec_le, dec_lt}

@@ -1,5 +1,6 @@
 -- The magnitude of an integer.
-use Rattle.integers.specs.Kit.{◌≡◌, refl, sym, subst, true, false, zero, suc, ◌+◌, ◌*◌, ◌^◌, ◌≤◌, ◌<◌, T, ℤ, pos, negsuc, ◌+ℤ◌, ◌-ℤ◌, ◌*ℤ◌, neg_ℤ, nat_abs}
+use Rattle.std.specs.Prelude.{◌≡◌, ◌+◌, ◌*◌, ◌^◌, ◌≤◌, ◌<◌, ◌+ℤ◌, ◌-ℤ◌, ◌*ℤ◌}
+use Rattle.integers.specs.Kit.{refl, sym, subst, true, false, zero, suc, T, ℤ, pos, negsuc, neg_ℤ, nat_abs}
 use native.Mathlib.Omega.{arith}
 use native.Mathlib.Nat.{add-zero, zero-add, le_refl, le-suc, lt_of_le_of_lt, not-suc-le-zero}
 use lib.IntN.{+ℤ_idl}

@@ -1,6 +1,7 @@
 -- The whole number nearest to z/D: what nearness alone gives; that the rule for halves leaves one number; that the formula gives it; and how a
 -- shift does.
-use Rattle.integers.specs.Kit.{◌≡◌, refl, sym, ap, ap₂, ◌∙◌, ℕ, zero, suc, ◌+◌, ◌*◌, ◌-◌, ◌/◌, ◌≤◌, ◌<◌, ℤ, pos, negsuc, ◌+ℤ◌, ◌-ℤ◌, ◌*ℤ◌, neg_ℤ, nat_abs}
+use Rattle.std.specs.Prelude.{◌≡◌, ◌+◌, ◌*◌, ◌-◌, ◌/◌, ◌≤◌, ◌<◌, ◌+ℤ◌, ◌-ℤ◌, ◌*ℤ◌}
+use Rattle.integers.specs.Kit.{refl, sym, ap, ap₂, ◌∙◌, ℕ, zero, suc, ℤ, pos, negsuc, neg_ℤ, nat_abs}
 use mathlib.Core.Logic.{◌↔◌}
 use native.Mathlib.Nat.{le_refl, lt_of_not-le, le_of_suc-le-suc, zero-lt-suc}
 use native.Mathlib.Nat.{mul_assoc, mul-pos, mul-le-mul_left, eq_of_mul-eq-mul_left, mul-lt-mul_of_pos_left}

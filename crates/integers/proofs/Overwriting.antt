@@ -1,5 +1,6 @@
 -- A buffer whose start is written over, beyond which it is as it was: place by place, and part after part.
-use Rattle.integers.specs.Kit.{◌≡◌, refl, sym, ap, ◌∙◌, List, [], ◌∷◌, ◌++◌, ℕ, zero, suc, ◌+◌, ◌-◌, ◌≤◌, ◌<◌, length, get_or, set, take, drop}
+use Rattle.std.specs.Prelude.{◌≡◌, ◌∷◌, ◌++◌, ◌+◌, ◌-◌, ◌≤◌, ◌<◌}
+use Rattle.integers.specs.Kit.{refl, sym, ap, ◌∙◌, List, [], ℕ, zero, suc, length, get_or, set, take, drop}
 use mathlib.Core.List.{append_assoc}
 use Prim.Native.Nat.{zero-le}
 use native.Mathlib.Nat.{add-zero, zero-add, suc-add}

@@ -1,5 +1,6 @@
 -- A buffer that is written part by part, in whatever order.
-use Rattle.integers.specs.Kit.{◌≡◌, ◌∙◌, Bool, false, ◌||◌, List, [], ◌∷◌, ℕ, ◌<◌, T, eqb, ℤ, pos, length, get_or}
+use Rattle.std.specs.Prelude.{◌≡◌, ◌||◌, ◌∷◌, ◌<◌}
+use Rattle.integers.specs.Kit.{◌∙◌, Bool, false, List, [], ℕ, T, eqb, ℤ, pos, length, get_or}
 use native.Mathlib.Decide.{ℕ_discrete}
 use borrow.Author.Tests.{ne_eqb}
 use Rattle.integers.specs.Table.{table, PartStored}

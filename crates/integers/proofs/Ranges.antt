@@ -1,5 +1,6 @@
 -- Ranges: what a number is that does not lie outside one, by its magnitude; and what a search for one that does reads.
-use Rattle.integers.specs.Kit.{◌≡◌, refl, sym, ◌∙◌, Bool, true, false, ◌||◌, ℕ, zero, suc, ◌≤◌, ltb, ℤ, pos, negsuc, neg_ℤ, nat_abs}
+use Rattle.std.specs.Prelude.{◌≡◌, ◌||◌, ◌≤◌}
+use Rattle.integers.specs.Kit.{refl, sym, ◌∙◌, Bool, true, false, ℕ, zero, suc, ltb, ℤ, pos, negsuc, neg_ℤ, nat_abs}
 use Prim.Native.Nat.{zero-le}
 use native.Mathlib.Nat.{zero-lt-suc}
 use native.Mathlib.Omega.{arith}

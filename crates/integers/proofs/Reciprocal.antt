@@ -1,6 +1,7 @@
 -- Quotients by a table of reciprocals (Granlund and Montgomery): n / s as n·M / D, with one product and, where D is a power of 2, one shift.
 -- For request 7 of 02; no job uses it yet.
-use Rattle.integers.specs.Kit.{◌≡◌, sym, ap, ◌∙◌, ℕ, ◌+◌, ◌*◌, ◌-◌, ◌/◌, ◌≤◌, ◌<◌, T, leb, ltb}
+use Rattle.std.specs.Prelude.{◌≡◌, ◌+◌, ◌*◌, ◌-◌, ◌/◌, ◌≤◌, ◌<◌}
+use Rattle.integers.specs.Kit.{sym, ap, ◌∙◌, ℕ, T, leb, ltb}
 use native.Mathlib.Nat.{lt_of_not-le, mul-le-mul_left, mul-le-mul_right, div-eq_of_lt-le, div-div-eq-div-mul, mul-div-mul_right}
 use native.Mathlib.Omega.{arith}
 use lib.Dec.{leb→le, ltb→lt}

@@ -1,6 +1,7 @@
 -- The lowest index at which a test passes, as a loop that looks from the front finds it, and whether there is one, as a loop without an early
 -- exit does.
-use Rattle.integers.specs.Kit.{◌≡◌, refl, sym, ap, ap₂, subst, ◌∙◌, Bool, true, false, cond, ◌||◌, ℕ, zero, suc, ◌+◌, ◌≤◌, ◌<◌, T, ltb}
+use Rattle.std.specs.Prelude.{◌≡◌, ◌||◌, ◌+◌, ◌≤◌, ◌<◌}
+use Rattle.integers.specs.Kit.{refl, sym, ap, ap₂, subst, ◌∙◌, Bool, true, false, cond, ℕ, zero, suc, T, ltb}
 use Prim.Native.Nat.{zero-le}
 use native.Mathlib.Nat.{le_refl, not-suc-le-zero, lt_of_lt_of_le}
 use native.Mathlib.Decide.{ℕ_discrete, dec_lt}

@@ -1,6 +1,7 @@
 -- Signed numbers in code. A signed local holds bits: what is read back of a number z is `to_z w (of_z w z)`, which is z where z fits the
 -- width w. These laws hide that.
-use Rattle.integers.specs.Kit.{◌≡◌, ap₂, Bool, ℕ, ◌+◌, ◌^◌, ◌≤◌, ◌<◌, lit<, ℤ, nat_abs}
+use Rattle.std.specs.Prelude.{◌≡◌, ◌+◌, ◌^◌, ◌≤◌, ◌<◌}
+use Rattle.integers.specs.Kit.{ap₂, Bool, ℕ, lit<, ℤ, nat_abs}
 use native.Mathlib.Nat.{lt_of_le_of_lt}
 use native.Mathlib.Omega.{arith}
 use lib.Signed.{lt_z, shr_z, mag_shr, nat_abs-le}

@@ -1,5 +1,6 @@
 -- Sums over a range, in any commutative monoid: one set of laws for naturals, integers and elements.
-use Rattle.integers.specs.Kit.{◌≡◌, refl, sym, ap, ap₂, ◌∙◌, ℕ, zero, suc, ◌+◌, ◌*◌, ◌-◌, ◌≤◌, ◌<◌, ℤ, pos, ◌+ℤ◌, ◌*ℤ◌, nat_abs}
+use Rattle.std.specs.Prelude.{◌≡◌, ◌+◌, ◌*◌, ◌-◌, ◌≤◌, ◌<◌, ◌+ℤ◌, ◌*ℤ◌}
+use Rattle.integers.specs.Kit.{refl, sym, ap, ap₂, ◌∙◌, ℕ, zero, suc, ℤ, pos, nat_abs}
 use native.Mathlib.Nat.{add-zero, add-suc, add_assoc, add_comm, zero-add, zero-mul, mul-zero, suc-mul, mul-add, add-le-add, le_refl, mul-le-mul_left, not-suc-le-zero}
 use native.Mathlib.Decide.{ℕ_discrete}
 use native.Mathlib.Omega.{arith}

@@ -1,5 +1,6 @@
 -- Lists given by a rule, and the invariant of a loop that fills a buffer from the front.
-use Rattle.integers.specs.Kit.{◌≡◌, refl, sym, ap, ap₂, ◌∙◌, List, [], ◌∷◌, ℕ, zero, suc, ◌+◌, ◌≤◌, ◌<◌, length, get_or, set}
+use Rattle.std.specs.Prelude.{◌≡◌, ◌∷◌, ◌+◌, ◌≤◌, ◌<◌}
+use Rattle.integers.specs.Kit.{refl, sym, ap, ap₂, ◌∙◌, List, [], ℕ, zero, suc, length, get_or, set}
 use Prim.Native.Nat.{zero-le}
 use native.Mathlib.Omega.{arith}
 use native.Mathlib.Nat.{le_of_suc-le-suc, not-suc-le-zero}

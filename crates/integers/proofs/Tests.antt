@@ -1,6 +1,7 @@
 -- Tests that are computed: over all numbers below a bound, and for the equality of integers and of lists of them.
 -- A table's rule is one such test, and one of these laws turns it into the rule at each entry.
-use Rattle.integers.specs.Kit.{◌≡◌, refl, ap, ap₂, Bool, true, false, List, [], ◌∷◌, ℕ, zero, suc, ◌<◌, T, ℤ, pos, negsuc}
+use Rattle.std.specs.Prelude.{◌≡◌, ◌∷◌, ◌<◌}
+use Rattle.integers.specs.Kit.{refl, ap, ap₂, Bool, true, false, List, [], ℕ, zero, suc, T, ℤ, pos, negsuc}
 use native.Mathlib.Nat.{not-suc-le-zero}
 use native.Mathlib.Decide.{ℕ_discrete}
 use native.Mathlib.Omega.{arith}

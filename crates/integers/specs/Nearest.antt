@@ -1,7 +1,7 @@
 -- Rounding by what it is: the whole numbers nearest to z/D, and which of two is taken at a half. The rule of the product is `Away`, with the
 -- formula `half_away`; that it gives such a number, and that no other is one: `half_away-rounded`, `only-half_away`.
-use Rattle.integers.specs.Kit.{◌≡◌, ℕ, suc, ◌*◌, ◌/◌, ◌≤◌, ◌<◌, ℤ, pos, negsuc, ◌+ℤ◌, ◌-ℤ◌, ◌*ℤ◌, neg_ℤ, nat_abs}
-use Rattle.std.specs.Prelude.{◌<ℤ◌}
+use Rattle.std.specs.Prelude.{◌≡◌, ◌*◌, ◌/◌, ◌≤◌, ◌<◌, ◌+ℤ◌, ◌-ℤ◌, ◌*ℤ◌, ◌<ℤ◌}
+use Rattle.integers.specs.Kit.{ℕ, suc, ℤ, pos, negsuc, neg_ℤ, nat_abs}
 use Rattle.std.specs.Int.Signed.{shr_z}
 
 -- q is nearest to z/D: at most 1/2 away from it, said as 2·|D·q - z| ≤ D, which needs no fraction

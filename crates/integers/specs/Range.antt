@@ -1,5 +1,6 @@
 -- Ranges of whole numbers, both ends of which belong to them: 01 and 02 turn back a number that lies outside one.
-use Rattle.integers.specs.Kit.{Bool, ◌||◌, List, ℕ, ℤ, pos, neg_ℤ, get_or}
+use Rattle.std.specs.Prelude.{◌||◌}
+use Rattle.integers.specs.Kit.{Bool, List, ℕ, ℤ, pos, neg_ℤ, get_or}
 use Rattle.std.specs.Int.Signed.{lt_z}
 
 -- z lies outside the range

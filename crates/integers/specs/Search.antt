@@ -1,5 +1,6 @@
 -- The lowest index at which a test passes, which in 01 is the place that a refusal names; and the lowest of the indices that come first in an order.
-use Rattle.integers.specs.Kit.{Bool, cond, not, ◌&&◌, ℕ, zero, suc, ltb, leb}
+use Rattle.std.specs.Prelude.{◌&&◌}
+use Rattle.integers.specs.Kit.{Bool, cond, not, ℕ, zero, suc, ltb, leb}
 
 -- the lowest index below n at which the test passes, and n where there is none
 unfoldable pub first : ℕ → (ℕ → Bool) → ℕ

@@ -1,5 +1,6 @@
 -- Lists given by a rule: how a contract says what a buffer holds.
-use Rattle.integers.specs.Kit.{◌≡◌, List, [], ◌∷◌, ◌++◌, ℕ, zero, suc, ◌<◌, ℤ, pos, length, take, drop, get_or}
+use Rattle.std.specs.Prelude.{◌≡◌, ◌∷◌, ◌++◌, ◌<◌}
+use Rattle.integers.specs.Kit.{List, [], ℕ, zero, suc, ℤ, pos, length, take, drop, get_or}
 
 -- the list f 0, f 1, ..., f (n - 1)
 abbrev pub table {ℓ} : {A : Type ℓ} → ℕ → (ℕ → A) → List A

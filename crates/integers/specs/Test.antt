@@ -1,5 +1,6 @@
 -- Tests that definitions use: of all numbers below a bound, of the equality of integers and of lists of them, and of a reciprocal.
-use Rattle.integers.specs.Kit.{Bool, true, false, ◌&&◌, List, [], ◌∷◌, ℕ, zero, suc, ◌+◌, ◌*◌, eqb, leb, ltb, ℤ, pos, negsuc}
+use Rattle.std.specs.Prelude.{◌&&◌, ◌∷◌, ◌+◌, ◌*◌}
+use Rattle.integers.specs.Kit.{Bool, true, false, List, [], ℕ, zero, suc, eqb, leb, ltb, ℤ, pos, negsuc}
 
 -- the test f passes at each number below n
 abbrev pub every : ℕ → (ℕ → Bool) → Bool

@@ -2,7 +2,8 @@
 // magnitude of an i32 and of an i64, as a u64, since that of the least is none of its type; and which of some i32 is the first that lies outside a range.
 #![tactic(auto)]
 
-ghost use Rattle.integers.specs.Kit.{◌≡◌, cond, ◌≤◌, ◌+ℤ◌, ◌-ℤ◌, nat_abs, length};
+ghost use Rattle.std.specs.Prelude.{◌≡◌, ◌≤◌, ◌+ℤ◌, ◌-ℤ◌};
+ghost use Rattle.integers.specs.Kit.{cond, nat_abs, length};
 ghost use Rattle.std.specs.Int.Signed.{lt_z};
 ghost use Rattle.std.proofs.Common.{SFits};
 ghost use Rattle.std.specs.Int.{w32};

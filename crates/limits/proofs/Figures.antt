@@ -1,5 +1,6 @@
 -- The figures that the papers name, as the definitions give them.
-use Rattle.integers.specs.Kit.{◌≡◌, refl}
+use Rattle.std.specs.Prelude.{◌≡◌}
+use Rattle.integers.specs.Kit.{refl}
 use Rattle.limits.specs.Limits.{places, components_size, sample_limit, magnitudes_limit, halvings, distance_numerator, dequantized_limit}
 use Rattle.limits.specs.Limits.{magnitudes_limit_in, halvings_in, distance_numerator_in}
 

@@ -1,6 +1,7 @@
 -- The limits of 01 ("Sheets", "Rounding at a width", "Why a set or sheet is turned back"), as functions of the number of dimensions d of a block
 -- and of the sample limit S, and those of 02. The constants of the code, in src/, are the same.
-use Rattle.integers.specs.Kit.{ℕ, ◌+◌, ◌-◌, ◌*◌, ◌/◌, ◌^◌, ℤ, pos, neg_ℤ}
+use Rattle.std.specs.Prelude.{◌+◌, ◌-◌, ◌*◌, ◌/◌, ◌^◌}
+use Rattle.integers.specs.Kit.{ℕ, ℤ, pos, neg_ℤ}
 
 -- the places of a block, each of a sample, an element and a coefficient
 abbrev pub places_in : ℕ → ℕ

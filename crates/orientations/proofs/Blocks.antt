@@ -1,6 +1,7 @@
 -- "Turning a block's elements gives the elements of the turned block": the elements of a block in another orientation are its elements, each at its
 -- place and with its sign. Mirroring a row changes the signs of the odd frequencies, and the transform does the same down as across.
-use Rattle.integers.specs.Kit.{◌≡◌, sym, ap, ap₂, ◌∙◌, List, [], ℕ, suc, ◌+◌, ◌-◌, ◌*◌, ◌/◌, ◌%◌, ◌<◌, ℤ, pos, ◌*ℤ◌, length}
+use Rattle.std.specs.Prelude.{◌≡◌, ◌+◌, ◌-◌, ◌*◌, ◌/◌, ◌%◌, ◌<◌, ◌*ℤ◌}
+use Rattle.integers.specs.Kit.{sym, ap, ap₂, ◌∙◌, List, [], ℕ, suc, ℤ, pos, length}
 use native.Mathlib.Omega.{arith}
 use Rattle.integers.proofs.Sums.{sum_cong, sum_swap, sum_reverse}
 use Rattle.integers.proofs.Tables.{get_d_table, length-table, table_ext, listed_8}

@@ -1,6 +1,7 @@
 -- Where samples and elements come from, and with which sign: tests that are computed, over all orientations and places, and over all pairs of
 -- orientations.
-use Rattle.integers.specs.Kit.{◌≡◌, refl, Bool, cond, not, ◌&&◌, ℕ, ◌+◌, ◌*◌, ◌/◌, ◌%◌, ◌<◌, T, eqb, ltb, ℤ, pos, negsuc, ◌*ℤ◌, nat_abs}
+use Rattle.std.specs.Prelude.{◌≡◌, ◌&&◌, ◌+◌, ◌*◌, ◌/◌, ◌%◌, ◌<◌, ◌*ℤ◌}
+use Rattle.integers.specs.Kit.{refl, Bool, cond, not, ℕ, T, eqb, ltb, ℤ, pos, negsuc, nat_abs}
 use mathlib.Core.Bool.{beq}
 use lib.Dec.{eqb→eq, ltb→lt}
 use mir.Facts.{and_yes}

@@ -1,5 +1,6 @@
 -- Accepted sets in another orientation: each element once, sets again accepted, and one orientation after another.
-use Rattle.integers.specs.Kit.{◌≡◌, sym, ap, ◌∙◌, List, ℕ, ◌+◌, ◌*◌, ◌/◌, ◌%◌, ◌≤◌, ◌<◌, lit≤, ℤ, pos, length, get_or}
+use Rattle.std.specs.Prelude.{◌≡◌, ◌+◌, ◌*◌, ◌/◌, ◌%◌, ◌≤◌, ◌<◌}
+use Rattle.integers.specs.Kit.{sym, ap, ◌∙◌, List, ℕ, lit≤, ℤ, pos, length, get_or}
 use native.Mathlib.Nat.{one-mul, le_trans}
 use native.Mathlib.Omega.{arith}
 use Rattle.integers.proofs.Tables.{is_table, length-table, table_ext}

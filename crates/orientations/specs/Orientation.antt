@@ -1,5 +1,6 @@
 -- The orientations of a block (02, request 1): of its samples, in 02's words; of its elements, by place and sign; and one after another.
-use Rattle.integers.specs.Kit.{Bool, cond, ◌&&◌, List, [], ◌∷◌, ◌++◌, ℕ, ◌+◌, ◌-◌, ◌*◌, ◌/◌, ◌%◌, eqb, ltb, ℤ, pos, ◌*ℤ◌, get_or}
+use Rattle.std.specs.Prelude.{◌&&◌, ◌∷◌, ◌++◌, ◌+◌, ◌-◌, ◌*◌, ◌/◌, ◌%◌, ◌*ℤ◌}
+use Rattle.integers.specs.Kit.{Bool, cond, List, [], ℕ, eqb, ltb, ℤ, pos, get_or}
 use Rattle.integers.specs.Table.{table}
 use Rattle.integers.specs.Test.{every, eq_z}
 use Rattle.limits.specs.Limits.{places, components_size}

@@ -3,7 +3,8 @@
 // 32 bits suffice: in an accepted set no component is above the limit of an element's magnitudes, and its negative is as large.
 #![tactic(auto)]
 
-ghost use Rattle.integers.specs.Kit.{◌≡◌, cond, ◌<◌, negsuc, pos, length};
+ghost use Rattle.std.specs.Prelude.{◌≡◌, ◌<◌};
+ghost use Rattle.integers.specs.Kit.{cond, negsuc, pos, length};
 ghost use Rattle.limits.specs.Limits.{components_size, magnitudes_limit, places};
 ghost use Rattle.ring.specs.Element as ring;
 ghost use Rattle.elements.specs.Bound.{Within, headroom};

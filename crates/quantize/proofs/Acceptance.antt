@@ -1,6 +1,7 @@
 -- Which calls are accepted: those with 64 numbers, 64 steps in range, room for 64 numbers, and no place beyond its limit; and what is answered by a
 -- job that asks `check_steps` for causes 1 and 10, and then looks for a place beyond its limit.
-use Rattle.integers.specs.Kit.{◌≡◌, ◌∙◌, Bool, true, false, List, [], ◌∷◌, ℕ, lit<, ℤ, length}
+use Rattle.std.specs.Prelude.{◌≡◌, ◌∷◌}
+use Rattle.integers.specs.Kit.{◌∙◌, Bool, true, false, List, [], ℕ, lit<, ℤ, length}
 use lib.Dec.{eqb→eq}
 use borrow.Author.Tests.{ne_eqb}
 use Rattle.integers.specs.Range.{beyond_at}

@@ -1,5 +1,6 @@
 -- What calls of quantize leave, in 02's words (request 2).
-use Rattle.integers.specs.Kit.{◌≡◌, sym, ◌∙◌, List, ℕ, ◌<◌, ℤ, pos, neg_ℤ, length, get_or}
+use Rattle.std.specs.Prelude.{◌≡◌, ◌<◌}
+use Rattle.integers.specs.Kit.{sym, ◌∙◌, List, ℕ, ℤ, pos, neg_ℤ, length, get_or}
 use Rattle.integers.specs.Nearest.{Rounded, Away}
 use Rattle.integers.proofs.Magnitudes.{nat_abs_neg}
 use Rattle.integers.proofs.Ranges.{not_beyond, within_limit}

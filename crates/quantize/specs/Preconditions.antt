@@ -1,5 +1,6 @@
 -- What the loops behind `quantize` and `dequantize` ask: that causes were ruled out.
-use Rattle.integers.specs.Kit.{◌≡◌, Bool, false, List, ℕ, ◌<◌}
+use Rattle.std.specs.Prelude.{◌≡◌, ◌<◌}
+use Rattle.integers.specs.Kit.{Bool, false, List, ℕ}
 use Rattle.limits.specs.Limits.{places}
 use Rattle.quantizer.specs.Quantizer.{Steps}
 

@@ -1,5 +1,6 @@
 -- The job `quantize` (02, request 2), for any numbers and any buffers, and the causes that it shares with `dequantize`.
-use Rattle.integers.specs.Kit.{Bool, List, [], ◌∷◌, ◌++◌, ℕ, ℤ, pos, length, get_or}
+use Rattle.std.specs.Prelude.{◌∷◌, ◌++◌}
+use Rattle.integers.specs.Kit.{Bool, List, [], ℕ, ℤ, pos, length, get_or}
 use Rattle.integers.specs.Range.{beyond_at}
 use Rattle.integers.specs.Table.{table}
 use Rattle.limits.specs.Limits.{places, coefficient_limit}

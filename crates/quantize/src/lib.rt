@@ -4,7 +4,8 @@
 // coefficient at its place and of the step of that place; a refused one leaves the buffer as it was, and names the first cause.
 #![tactic(auto)]
 
-ghost use Rattle.integers.specs.Kit.{◌≡◌, length};
+ghost use Rattle.std.specs.Prelude.{◌≡◌};
+ghost use Rattle.integers.specs.Kit.{length};
 ghost use Rattle.integers.specs.Range.{beyond_at};
 ghost use Rattle.limits.specs.Limits.{coefficient_limit};
 ghost use Rattle.answers.specs.Answer.{accept, answered, returned};

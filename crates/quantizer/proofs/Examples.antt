@@ -1,6 +1,7 @@
 -- Examples, computed from the definitions: halves of both signs, numbers beside them, a dequantized coefficient near its limit, and the first places of
 -- the zig-zag order, which are (0,0), (0,1), (1,0), (2,0), (1,1), (0,2), and its last one, (7,7).
-use Rattle.integers.specs.Kit.{◌≡◌, refl, [], ◌∷◌, pos, negsuc}
+use Rattle.std.specs.Prelude.{◌≡◌, ◌∷◌}
+use Rattle.integers.specs.Kit.{refl, [], pos, negsuc}
 use Rattle.integers.specs.Nearest.{half_up, half_away}
 use Rattle.integers.specs.Table.{table}
 use Rattle.quantizer.specs.Quantizer.{quantized, dequantized}

@@ -1,5 +1,6 @@
 -- One coefficient and its step: its quantized value by magnitude and sign, the dequantized coefficient, and there and back again.
-use Rattle.integers.specs.Kit.{◌≡◌, sym, ap, subst, true, false, List, ℕ, zero, suc, ◌+◌, ◌*◌, ◌/◌, ◌^◌, ◌≤◌, ◌<◌, T, lit<, ℤ, pos, negsuc, ◌-ℤ◌, neg_ℤ, nat_abs, get_or}
+use Rattle.std.specs.Prelude.{◌≡◌, ◌+◌, ◌*◌, ◌/◌, ◌^◌, ◌≤◌, ◌<◌, ◌-ℤ◌}
+use Rattle.integers.specs.Kit.{sym, ap, subst, true, false, List, ℕ, zero, suc, T, lit<, ℤ, pos, negsuc, neg_ℤ, nat_abs, get_or}
 use Prim.Native.Nat.{zero-le}
 use native.Mathlib.Nat.{lt_of_le_of_lt, mul-le-mul, not-suc-le-zero}
 use native.Mathlib.Omega.{arith}

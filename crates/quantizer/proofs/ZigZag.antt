@@ -1,5 +1,6 @@
 -- The zig-zag order is a permutation of the 64 places: each index has one place, and each place one index.
-use Rattle.integers.specs.Kit.{◌≡◌, ◌&&◌, List, ℕ, ◌*◌, ◌<◌, T, eqb, ltb, get_or}
+use Rattle.std.specs.Prelude.{◌≡◌, ◌&&◌, ◌*◌, ◌<◌}
+use Rattle.integers.specs.Kit.{List, ℕ, T, eqb, ltb, get_or}
 use native.Mathlib.Omega.{arith}
 use lib.Dec.{eqb→eq, ltb→lt}
 use mir.Facts.{and_yes}

@@ -1,5 +1,6 @@
 -- Quantization of a coefficient (02, request 2, as T.81 A.3.4), and 02's way back from it, dequantization.
-use Rattle.integers.specs.Kit.{◌≡◌, Bool, false, List, ℕ, ◌*◌, ◌<◌, ℤ, pos, ◌*ℤ◌, length, get_or}
+use Rattle.std.specs.Prelude.{◌≡◌, ◌*◌, ◌<◌, ◌*ℤ◌}
+use Rattle.integers.specs.Kit.{Bool, false, List, ℕ, ℤ, pos, length, get_or}
 use Rattle.integers.specs.Nearest.{half_away}
 use Rattle.integers.specs.Range.{outside}
 use Rattle.limits.specs.Limits.{places, step_limit}

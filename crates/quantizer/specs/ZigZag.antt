@@ -1,5 +1,6 @@
 -- The zig-zag order of the 64 places of a block (T.81, Figure A.6), by its walk: the place (u,v), which is 8u+v, lies on the diagonal u+v.
-use Rattle.integers.specs.Kit.{Bool, cond, ◌&&◌, List, [], ◌++◌, ℕ, zero, suc, ◌+◌, ◌-◌, ◌*◌, ◌%◌, eqb, ltb, get_or}
+use Rattle.std.specs.Prelude.{◌&&◌, ◌++◌, ◌+◌, ◌-◌, ◌*◌, ◌%◌}
+use Rattle.integers.specs.Kit.{Bool, cond, List, [], ℕ, zero, suc, eqb, ltb, get_or}
 use Rattle.integers.specs.Search.{first}
 use Rattle.integers.specs.Table.{table}
 use Rattle.limits.specs.Limits.{places}

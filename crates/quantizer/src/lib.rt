@@ -3,7 +3,8 @@
 // 32 bits suffice for the quotient: a magnitude plus half of its divisor is at most 4,198,399. A product in dequantization has a magnitude of up to 2^44.
 #![tactic(auto)]
 
-ghost use Rattle.integers.specs.Kit.{◌≡◌, ◌<◌, ◌+◌, ◌*◌, ◌/◌, ◌≤◌, nat_abs, length};
+ghost use Rattle.std.specs.Prelude.{◌≡◌, ◌<◌, ◌+◌, ◌*◌, ◌/◌, ◌≤◌};
+ghost use Rattle.integers.specs.Kit.{nat_abs, length};
 ghost use Rattle.integers.specs.Range.{beyond};
 ghost use Rattle.integers.specs.Search.{any, first};
 ghost use Rattle.limits.specs.Limits.{coefficient_limit, dequantized_limit, places, step_limit};

@@ -1,6 +1,7 @@
 -- Which calls are accepted: of `reorient` those with an accepted set, an orientation and room for 512 numbers; of `compose_orientations` those with two
 -- orientations.
-use Rattle.integers.specs.Kit.{◌≡◌, List, ℕ, ◌<◌, T, ltb, lit<, ℤ, length}
+use Rattle.std.specs.Prelude.{◌≡◌, ◌<◌}
+use Rattle.integers.specs.Kit.{List, ℕ, T, ltb, lit<, ℤ, length}
 use lib.Dec.{eqb→eq, ltb→lt}
 use borrow.Author.Tests.{lt-ltb}
 use Rattle.limits.specs.Limits.{places, components_size, magnitudes_limit}

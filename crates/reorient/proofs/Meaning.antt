@@ -1,5 +1,6 @@
 -- What calls leave, in 02's words (request 1): after forward, before back, and one after another.
-use Rattle.integers.specs.Kit.{◌≡◌, sym, ap, ◌∙◌, List, ℕ, ◌<◌, ℤ, length}
+use Rattle.std.specs.Prelude.{◌≡◌, ◌<◌}
+use Rattle.integers.specs.Kit.{sym, ap, ◌∙◌, List, ℕ, ℤ, length}
 use Rattle.limits.specs.Limits.{places, components_size, magnitudes_limit}
 use Rattle.ring.specs.Element.{scale}
 use Rattle.answers.specs.Answer.{accept}

@@ -1,5 +1,6 @@
 -- The jobs `reorient` and `compose_orientations` (02, request 1), for any numbers and any buffers.
-use Rattle.integers.specs.Kit.{List, [], ◌∷◌, ℕ, ltb, ℤ, length}
+use Rattle.std.specs.Prelude.{◌∷◌}
+use Rattle.integers.specs.Kit.{List, [], ℕ, ltb, ℤ, length}
 use Rattle.limits.specs.Limits.{places, components_size, magnitudes_limit}
 use Rattle.answers.specs.Answer.{Cause, sized, unless, lowest, accept, accept_with}
 use Rattle.answers.specs.Job.{Job}

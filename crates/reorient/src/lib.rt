@@ -5,7 +5,7 @@
 // cause.
 #![tactic(auto)]
 
-ghost use Rattle.integers.specs.Kit.{◌≡◌};
+ghost use Rattle.std.specs.Prelude.{◌≡◌};
 ghost use Rattle.answers.specs.Answer.{accept, answered, returned};
 ghost use Rattle.answers.specs.Job.{job_left, job_returned};
 ghost use Rattle.reorient.specs.Reorient.{compose_job, reorient_causes, reorient_job};

@@ -1,6 +1,7 @@
 -- Elements by their components: which operations keep all eight, what a component of a result is, and that an element is the
 -- combination of 1 and c_1 to c_7 by its components.
-use Rattle.integers.specs.Kit.{◌≡◌, refl, sym, ap, ◌∙◌, Bool, List, [], ◌∷◌, ℕ, zero, suc, ◌%◌, ◌<◌, T, eqb, ℤ, pos, negsuc, ◌+ℤ◌, ◌-ℤ◌, ◌*ℤ◌, neg_ℤ, nat_abs, length}
+use Rattle.std.specs.Prelude.{◌≡◌, ◌∷◌, ◌%◌, ◌<◌, ◌+ℤ◌, ◌-ℤ◌, ◌*ℤ◌}
+use Rattle.integers.specs.Kit.{refl, sym, ap, ◌∙◌, Bool, List, [], ℕ, zero, suc, T, eqb, ℤ, pos, negsuc, neg_ℤ, nat_abs, length}
 use native.Mathlib.Omega.{arith}
 use lib.Dec.{eqb→eq}
 use lib.IntN.{+ℤ_idl, +ℤ_idr, *ℤ-zero}

@@ -1,5 +1,6 @@
 -- Conjugation is an automorphism of the ring: it is linear, it takes products to products, it fixes the whole numbers, and eight of it change nothing.
-use Rattle.integers.specs.Kit.{◌≡◌, sym, ap, ◌∙◌, Bool, List, [], ◌∷◌, ℕ, ◌<◌, T, ℤ, pos, neg_ℤ}
+use Rattle.std.specs.Prelude.{◌≡◌, ◌∷◌, ◌<◌}
+use Rattle.integers.specs.Kit.{sym, ap, ◌∙◌, Bool, List, [], ℕ, T, ℤ, pos, neg_ℤ}
 use lib.IntN.{+ℤ_idl, +ℤ_idr, *ℤ-zero}
 use Rattle.integers.specs.Table.{table}
 use Rattle.integers.specs.Test.{every, eq_list, every₂}

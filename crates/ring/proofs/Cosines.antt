@@ -1,5 +1,6 @@
 -- The rules of the cosines, each for all whole numbers (01, "Elements"). c_(-m) = c_m is `Product.cosine_neg`.
-use Rattle.integers.specs.Kit.{◌≡◌, refl, sym, ap, ap₂, ◌∙◌, Bool, ℕ, suc, ◌+◌, ◌-◌, ◌%◌, ◌≤◌, T, ℤ, pos, negsuc, ◌+ℤ◌, ◌-ℤ◌, neg_ℤ}
+use Rattle.std.specs.Prelude.{◌≡◌, ◌+◌, ◌-◌, ◌%◌, ◌≤◌, ◌+ℤ◌, ◌-ℤ◌}
+use Rattle.integers.specs.Kit.{refl, sym, ap, ap₂, ◌∙◌, Bool, ℕ, suc, T, ℤ, pos, negsuc, neg_ℤ}
 use native.Mathlib.Nat.{add-mod}
 use native.Mathlib.Decide.{dec_le}
 use native.Mathlib.Omega.{arith}

@@ -1,6 +1,7 @@
 -- The dot product of the components. Component 0 of a × c_m, for m no multiple of 8, is twice the dot product of a and c_m; the dot product with c_k is
 -- component k.
-use Rattle.integers.specs.Kit.{◌≡◌, refl, sym, ap, ap₂, ◌∙◌, Bool, ◌||◌, List, [], ◌∷◌, ℕ, ◌%◌, ◌<◌, T, eqb, ℤ, pos, negsuc, ◌+ℤ◌, ◌*ℤ◌, neg_ℤ}
+use Rattle.std.specs.Prelude.{◌≡◌, ◌||◌, ◌∷◌, ◌%◌, ◌<◌, ◌+ℤ◌, ◌*ℤ◌}
+use Rattle.integers.specs.Kit.{refl, sym, ap, ap₂, ◌∙◌, Bool, List, [], ℕ, T, eqb, ℤ, pos, negsuc, neg_ℤ}
 use native.Mathlib.Omega.{arith}
 use lib.IntN.{+ℤ_comm, +ℤ_assoc, +ℤ_idl, *ℤ-zero, *ℤ_comm}
 use borrow.Author.Tests.{ne_eqb}

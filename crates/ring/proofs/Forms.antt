@@ -1,5 +1,6 @@
 -- Linear forms: whole numbers that are made linearly of an element's components.
-use Rattle.integers.specs.Kit.{◌≡◌, refl, sym, ap, ap₂, ◌∙◌, Bool, true, false, cond, List, [], ℤ, pos, ◌+ℤ◌, ◌*ℤ◌, neg_ℤ}
+use Rattle.std.specs.Prelude.{◌≡◌, ◌+ℤ◌, ◌*ℤ◌}
+use Rattle.integers.specs.Kit.{refl, sym, ap, ap₂, ◌∙◌, Bool, true, false, cond, List, [], ℤ, pos, neg_ℤ}
 use lib.IntN.{+ℤ_comm, +ℤ_assoc, *ℤ_comm, *ℤ-zero, neg_ℤ-+ℤ}
 use Rattle.integers.proofs.Integer.{*ℤ_assoc, *ℤ-+ℤ, *ℤ-neg_ℤ}
 use Rattle.integers.proofs.Sums.{swap}

@@ -1,5 +1,6 @@
 -- Sums, multiples and combinations of elements, and linear maps. All laws hold of lists of any length.
-use Rattle.integers.specs.Kit.{◌≡◌, refl, sym, ap, ap₂, ◌∙◌, List, [], ◌∷◌, ℕ, zero, suc, ◌<◌, ℤ, pos, ◌+ℤ◌, ◌*ℤ◌, length}
+use Rattle.std.specs.Prelude.{◌≡◌, ◌∷◌, ◌<◌, ◌+ℤ◌, ◌*ℤ◌}
+use Rattle.integers.specs.Kit.{refl, sym, ap, ap₂, ◌∙◌, List, [], ℕ, zero, suc, ℤ, pos, length}
 use mathlib.Core.Path.{fun_ext}
 use native.Mathlib.Omega.{arith}
 use lib.IntN.{+ℤ_comm, +ℤ_assoc, *ℤ_comm}

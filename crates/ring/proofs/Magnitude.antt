@@ -1,5 +1,6 @@
 -- The sum of the magnitudes of an element's components, and how large a linear form can get where no component is large.
-use Rattle.integers.specs.Kit.{◌≡◌, refl, sym, ap, ◌∙◌, List, [], ◌∷◌, ℕ, zero, suc, ◌+◌, ◌*◌, ◌≤◌, ◌<◌, ℤ, pos, ◌*ℤ◌, nat_abs, length}
+use Rattle.std.specs.Prelude.{◌≡◌, ◌∷◌, ◌+◌, ◌*◌, ◌≤◌, ◌<◌, ◌*ℤ◌}
+use Rattle.integers.specs.Kit.{refl, sym, ap, ◌∙◌, List, [], ℕ, zero, suc, ℤ, pos, nat_abs, length}
 use Prim.Native.Nat.{zero-le}
 use native.Mathlib.Nat.{le_refl, le_trans, le_of_eq, mul-add, mul-zero, mul-le-mul_left, mul-le-mul_right}
 use native.Mathlib.Omega.{arith}

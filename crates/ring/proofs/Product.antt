@@ -1,5 +1,6 @@
 -- The product of elements is linear in each factor, commutative and associative. All laws hold of lists of any length.
-use Rattle.integers.specs.Kit.{◌≡◌, refl, sym, ap, ap₂, ◌∙◌, Bool, List, [], ℕ, zero, suc, ◌%◌, ◌≤◌, ◌<◌, T, ltb, ℤ, pos, ◌-ℤ◌, neg_ℤ}
+use Rattle.std.specs.Prelude.{◌≡◌, ◌%◌, ◌≤◌, ◌<◌, ◌-ℤ◌}
+use Rattle.integers.specs.Kit.{refl, sym, ap, ap₂, ◌∙◌, Bool, List, [], ℕ, zero, suc, T, ltb, ℤ, pos, neg_ℤ}
 use mathlib.Core.Bool.{and_comm}
 use native.Mathlib.Decide.{dec_lt}
 use native.Mathlib.Omega.{arith}

@@ -1,6 +1,7 @@
 -- 0, 1 and the whole numbers among the elements. `Linear` and `Product` have the ring's other laws, for lists of any length; those that
 -- name 0 or 1 hold of elements with all of their components.
-use Rattle.integers.specs.Kit.{◌≡◌, refl, sym, ap, ◌∙◌, Bool, true, false, cond, List, ℕ, T, ℤ, pos, negsuc, ◌*ℤ◌}
+use Rattle.std.specs.Prelude.{◌≡◌, ◌*ℤ◌}
+use Rattle.integers.specs.Kit.{refl, sym, ap, ◌∙◌, Bool, true, false, cond, List, ℕ, T, ℤ, pos, negsuc}
 use lib.IntN.{+ℤ_idl, zero-*ℤ, *ℤ-zero}
 use Rattle.integers.specs.Test.{every, eq_list}
 use Rattle.integers.proofs.Integer.{*ℤ_pos1}

@@ -2,7 +2,8 @@
 -- An element is the list of its eight components, u_0 first, and means u_0 + u_1·c_1 + ... + u_7·c_7. Two elements, of eight
 -- components each, are the same when all their components are. The operations take lists of any length, and read a missing component as 0; `[]` is the 0
 -- from which sums start. 1 and c_1 to c_7 are the basis elements: component k of an element is the coefficient of the k-th.
-use Rattle.integers.specs.Kit.{◌≡◌, cond, ◌&&◌, List, [], ◌∷◌, ℕ, zero, suc, ◌+◌, ◌-◌, ◌%◌, leb, ltb, eqb, ℤ, pos, ◌+ℤ◌, ◌-ℤ◌, ◌*ℤ◌, neg_ℤ, nat_abs, length, get_or}
+use Rattle.std.specs.Prelude.{◌≡◌, ◌&&◌, ◌∷◌, ◌+◌, ◌-◌, ◌%◌, ◌+ℤ◌, ◌-ℤ◌, ◌*ℤ◌}
+use Rattle.integers.specs.Kit.{cond, List, [], ℕ, zero, suc, leb, ltb, eqb, ℤ, pos, neg_ℤ, nat_abs, length, get_or}
 use Rattle.integers.specs.Table.{table}
 
 -- an element has all of its components; a record, so that it can be inferred

@@ -1,5 +1,6 @@
 -- Linear maps, and those of elements that the transforms rest on: component k as an element, conjugation, and the dot product of the components.
-use Rattle.integers.specs.Kit.{◌≡◌, List, [], ◌∷◌, ℕ, zero, suc, ◌*◌, ℤ, pos, ◌+ℤ◌, ◌*ℤ◌}
+use Rattle.std.specs.Prelude.{◌≡◌, ◌∷◌, ◌*◌, ◌+ℤ◌, ◌*ℤ◌}
+use Rattle.integers.specs.Kit.{List, [], ℕ, zero, suc, ℤ, pos}
 use Rattle.ring.specs.Element.{component, add, scale, integer, cosine, combine}
 
 -- a map into elements or into whole numbers, of which `none` is 0, is linear

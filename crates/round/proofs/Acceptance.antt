@@ -1,6 +1,7 @@
 -- Which calls of round are accepted: those with an accepted set, room for its coefficients and one of the three widths. A block's set, the elements
 -- that forward writes for a block in range, is one.
-use Rattle.integers.specs.Kit.{◌≡◌, List, ℕ, T, lit<, ℤ, length}
+use Rattle.std.specs.Prelude.{◌≡◌}
+use Rattle.integers.specs.Kit.{List, ℕ, T, lit<, ℤ, length}
 use lib.Dec.{eqb→eq}
 use Rattle.limits.specs.Limits.{places, places_in, components_in, sample_limit, magnitudes_limit_in}
 use Rattle.answers.specs.Answer.{accept}

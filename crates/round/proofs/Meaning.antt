@@ -1,6 +1,7 @@
 -- What calls leave, in 02's words (request 3): halves away from zero; and, of two calls, that a negative mirrors its positive. And that no coefficient is
 -- too large for the jobs that take coefficients.
-use Rattle.integers.specs.Kit.{◌≡◌, sym, ap, ◌∙◌, List, ℕ, ◌+◌, ◌^◌, ◌≤◌, ◌<◌, lit<, ℤ, pos, nat_abs, length, get_or}
+use Rattle.std.specs.Prelude.{◌≡◌, ◌+◌, ◌^◌, ◌≤◌, ◌<◌}
+use Rattle.integers.specs.Kit.{sym, ap, ◌∙◌, List, ℕ, lit<, ℤ, pos, nat_abs, length, get_or}
 use mir.Syntax.{w32}
 use mir.Val.{SFits}
 use Rattle.integers.specs.Nearest.{Rounded, Away}

@@ -1,5 +1,6 @@
 -- The rounding job of d dimensions (01, "Rounding at a width" and "Why a set or sheet is turned back"), for any buffers and any b.
-use Rattle.integers.specs.Kit.{List, [], ◌∷◌, ℕ, ℤ, length}
+use Rattle.std.specs.Prelude.{◌∷◌}
+use Rattle.integers.specs.Kit.{List, [], ℕ, ℤ, length}
 use Rattle.limits.specs.Limits.{places_in, components_in, sample_limit, magnitudes_limit_in}
 use Rattle.answers.specs.Answer.{Cause, sized, unless, lowest, accept}
 use Rattle.answers.specs.Job.{Job}

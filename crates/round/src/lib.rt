@@ -4,7 +4,8 @@
 // of its element's value; a refused one leaves the buffer as it was, and names the first cause.
 #![tactic(auto)]
 
-ghost use Rattle.integers.specs.Kit.{◌≡◌, ◌<◌, T};
+ghost use Rattle.std.specs.Prelude.{◌≡◌, ◌<◌};
+ghost use Rattle.integers.specs.Kit.{T};
 ghost use Rattle.answers.specs.Answer.{accept, accepted, answered, returned};
 ghost use Rattle.answers.specs.Job.{job_left, job_returned};
 ghost use Rattle.coefficients.specs.Coefficients.{AllNear};

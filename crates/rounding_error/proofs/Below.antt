@@ -1,5 +1,6 @@
 -- Each fraction lies on one side of each cosine: what lies below is less than what lies above, and no fraction is a cosine.
-use Rattle.integers.specs.Kit.{◌≡◌, ap, Bool, not, ◌||◌, ℕ, zero, suc, ◌+◌, ◌*◌, ◌/◌, ◌%◌, ◌≤◌, ◌<◌, T, pos, nat_abs}
+use Rattle.std.specs.Prelude.{◌≡◌, ◌||◌, ◌+◌, ◌*◌, ◌/◌, ◌%◌, ◌≤◌, ◌<◌}
+use Rattle.integers.specs.Kit.{ap, Bool, not, ℕ, zero, suc, T, pos, nat_abs}
 use mathlib.Core.Logic.{◌⊎◌, inl, inr}
 use native.Mathlib.Nat.{div-add-mod, mod-lt, mul-le-mul, le_refl, lt_of_not-le, zero-lt-suc}
 use native.Mathlib.Omega.{arith}

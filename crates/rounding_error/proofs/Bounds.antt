@@ -1,5 +1,6 @@
 -- Bounds of the sum that an element makes with fractions, from the rule of the table numbers; from above and from below at once.
-use Rattle.integers.specs.Kit.{◌≡◌, ap₂, ◌∙◌, List, ℕ, zero, suc, ◌+◌, ◌*◌, ◌^◌, ◌<◌, T, ℤ, pos, negsuc, ◌+ℤ◌, ◌-ℤ◌, ◌*ℤ◌, neg_ℤ, nat_abs}
+use Rattle.std.specs.Prelude.{◌≡◌, ◌+◌, ◌*◌, ◌^◌, ◌<◌, ◌+ℤ◌, ◌-ℤ◌, ◌*ℤ◌}
+use Rattle.integers.specs.Kit.{ap₂, ◌∙◌, List, ℕ, zero, suc, T, ℤ, pos, negsuc, neg_ℤ, nat_abs}
 use native.Mathlib.Nat.{mul_comm, mul-zero, zero-lt-suc}
 use native.Mathlib.Omega.{arith}
 use lib.Dec.{lt→ltb}

@@ -1,6 +1,7 @@
 -- What the coefficient is: a nearest number, by the rule for halves. The error law and the sizes ask no more of it than to be nearest, and do not know
 -- where a half goes.
-use Rattle.integers.specs.Kit.{◌≡◌, refl, sym, ap, ap₂, ◌∙◌, List, ℕ, suc, ◌+◌, ◌*◌, ◌^◌, ◌≤◌, ◌<◌, ℤ, pos, ◌+ℤ◌, ◌-ℤ◌, ◌*ℤ◌, neg_ℤ, nat_abs}
+use Rattle.std.specs.Prelude.{◌≡◌, ◌+◌, ◌*◌, ◌^◌, ◌≤◌, ◌<◌, ◌+ℤ◌, ◌-ℤ◌, ◌*ℤ◌}
+use Rattle.integers.specs.Kit.{refl, sym, ap, ap₂, ◌∙◌, List, ℕ, suc, ℤ, pos, neg_ℤ, nat_abs}
 use native.Mathlib.Omega.{arith}
 use lib.IntN.{neg_ℤ-+ℤ, +ℤ_idr, +ℤ_invr, *ℤ-zero, pos-*ℤ-pos}
 use lib.Pow.{pow-add, pow_pos}

@@ -1,6 +1,7 @@
 -- How near any whole number nearest to N/2^(b+s) lies to the 2^s-th part of an element's value, at every width: the value against N, by the rule of
 -- the table numbers, and N against the number, by what nearness is.
-use Rattle.integers.specs.Kit.{List, ℕ, suc, ◌+◌, ◌*◌, ◌^◌, ◌≤◌, ◌<◌, T, ℤ, pos, negsuc, ◌+ℤ◌, ◌-ℤ◌, ◌*ℤ◌, nat_abs}
+use Rattle.std.specs.Prelude.{◌+◌, ◌*◌, ◌^◌, ◌≤◌, ◌<◌, ◌+ℤ◌, ◌-ℤ◌, ◌*ℤ◌}
+use Rattle.integers.specs.Kit.{List, ℕ, suc, T, ℤ, pos, negsuc, nat_abs}
 use native.Mathlib.Nat.{le_refl}
 use native.Mathlib.Omega.{arith}
 use lib.Pow.{pow-add}

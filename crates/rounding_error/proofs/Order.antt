@@ -1,5 +1,6 @@
 -- The order of fractions, as cross-multiplication makes it.
-use Rattle.integers.specs.Kit.{◌≡◌, not, ℕ, ◌*◌, T, ℤ, pos, negsuc, neg_ℤ, ◌+ℤ◌, ◌*ℤ◌}
+use Rattle.std.specs.Prelude.{◌≡◌, ◌*◌, ◌+ℤ◌, ◌*ℤ◌}
+use Rattle.integers.specs.Kit.{not, ℕ, T, ℤ, pos, negsuc, neg_ℤ}
 use native.Mathlib.Nat.{mul_comm, zero-mul}
 use native.Mathlib.Omega.{arith}
 use lib.Signed.{◌≤ℤ◌, ◌<ℤ◌, <ℤ-≤ℤ_trans, le_z_yes, lt_z_yes, lt_z_no, clash_ℤ}

@@ -1,5 +1,6 @@
 -- The seven roots are 01's cosines: each is the root of 2, or of 2 plus or minus another, as its square in the ring says too.
-use Rattle.integers.specs.Kit.{◌≡◌, refl, pos}
+use Rattle.std.specs.Prelude.{◌≡◌}
+use Rattle.integers.specs.Kit.{refl, pos}
 use Rattle.ring.specs.Element.{integer, cosine, basis_product, mul}
 use Rattle.rounding_error.specs.Root.{root_2, root, squared, PlusRoot, MinusRoot}
 

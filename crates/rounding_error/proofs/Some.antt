@@ -1,5 +1,6 @@
 -- There are fractions below and above each cosine, so that the bounds of a value are not vacuous.
-use Rattle.integers.specs.Kit.{◌≡◌, Bool, ◌&&◌, List, ℕ, suc, ◌-◌, ◌≤◌, T, ℤ, pos, negsuc}
+use Rattle.std.specs.Prelude.{◌≡◌, ◌&&◌, ◌-◌, ◌≤◌}
+use Rattle.integers.specs.Kit.{Bool, List, ℕ, suc, T, ℤ, pos, negsuc}
 use native.Mathlib.Nat.{not-suc-le-zero}
 use native.Mathlib.Omega.{arith}
 use lib.Dec.{ltb→lt}

@@ -1,5 +1,6 @@
 -- No two numbers obey the rule of one table number, and none that does is above 2^(b+1): for every width.
-use Rattle.integers.specs.Kit.{◌≡◌, ℕ, ◌+◌, ◌^◌, ◌≤◌, T, ℤ, pos, negsuc, ◌+ℤ◌, ◌-ℤ◌, ◌*ℤ◌, nat_abs}
+use Rattle.std.specs.Prelude.{◌≡◌, ◌+◌, ◌^◌, ◌≤◌, ◌+ℤ◌, ◌-ℤ◌, ◌*ℤ◌}
+use Rattle.integers.specs.Kit.{ℕ, T, ℤ, pos, negsuc, nat_abs}
 use Prim.Native.Nat.{zero-le}
 use native.Mathlib.Omega.{arith}
 use lib.Dec.{leb→le}

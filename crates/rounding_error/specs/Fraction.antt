@@ -1,6 +1,7 @@
 -- Fractions (01, "Where a fraction lies against a cosine"): "pairs of whole numbers, the lower one above 0". They are compared by
 -- cross-multiplication, and two pairs of one value are not made equal.
-use Rattle.integers.specs.Kit.{Bool, ℕ, ◌*◌, ◌<◌, lit<, ℤ, pos, ◌+ℤ◌, ◌*ℤ◌, neg_ℤ}
+use Rattle.std.specs.Prelude.{◌*◌, ◌<◌, ◌+ℤ◌, ◌*ℤ◌}
+use Rattle.integers.specs.Kit.{Bool, ℕ, lit<, ℤ, pos, neg_ℤ}
 use Rattle.std.proofs.Common.{mul-pos}
 use Rattle.std.specs.Int.Signed.{le_z, lt_z}
 

@@ -1,6 +1,7 @@
 -- The cosines c_1 to c_7 as square roots, and where a fraction lies against them (01, "Where a fraction lies against a cosine"). `roots` ties them to the
 -- ring's c_1 to c_7.
-use Rattle.integers.specs.Kit.{◌≡◌, Bool, not, ◌||◌, List, [], ◌∷◌, ℕ, ◌-◌, T, ℤ, pos, ◌*ℤ◌, get_or}
+use Rattle.std.specs.Prelude.{◌≡◌, ◌||◌, ◌∷◌, ◌-◌, ◌*ℤ◌}
+use Rattle.integers.specs.Kit.{Bool, not, List, [], ℕ, T, ℤ, pos, get_or}
 use Rattle.ring.specs.Element.{add, subtract, integer, cosine, mul}
 use Rattle.rounding_error.specs.Fraction.{Fraction, whole, square, minus, at_most, less}
 

@@ -1,5 +1,6 @@
 -- An element's value against fractions (01, "Where a fraction lies against a cosine", second paragraph).
-use Rattle.integers.specs.Kit.{List, ℕ, suc, ◌^◌, ◌≤◌, T, ℤ, pos, negsuc}
+use Rattle.std.specs.Prelude.{◌^◌, ◌≤◌}
+use Rattle.integers.specs.Kit.{List, ℕ, suc, T, ℤ, pos, negsuc}
 use Rattle.std.specs.Int.Signed.{lt_z}
 use Rattle.integers.specs.Sum.{sum}
 use Rattle.ring.specs.Element.{component}

@@ -1,5 +1,6 @@
 -- Rounding at a width b (01, "Rounding at a width"), for every b and every list m of table numbers, m_1 first: m_k is `component m (k - 1)`.
-use Rattle.integers.specs.Kit.{Bool, ◌&&◌, List, ℕ, suc, ◌+◌, ◌^◌, ◌<◌, T, lit<, ℤ, pos, ◌+ℤ◌, ◌-ℤ◌, ◌*ℤ◌}
+use Rattle.std.specs.Prelude.{◌&&◌, ◌+◌, ◌^◌, ◌<◌, ◌+ℤ◌, ◌-ℤ◌, ◌*ℤ◌}
+use Rattle.integers.specs.Kit.{Bool, List, ℕ, suc, T, lit<, ℤ, pos}
 use Rattle.std.proofs.Common.{pow_pos}
 use Rattle.integers.specs.Nearest.{half_away}
 use Rattle.integers.specs.Sum.{sum}

@@ -1,5 +1,6 @@
 -- The causes of a refusal of a sheet: the ways out of `check`, and which calls are accepted.
-use Rattle.integers.specs.Kit.{◌≡◌, sym, ◌∙◌, Bool, true, false, not, List, [], ◌∷◌, ℕ, ◌≤◌, T, leb, lit<, ℤ, length}
+use Rattle.std.specs.Prelude.{◌≡◌, ◌∷◌, ◌≤◌}
+use Rattle.integers.specs.Kit.{sym, ◌∙◌, Bool, true, false, not, List, [], ℕ, T, leb, lit<, ℤ, length}
 use lib.Dec.{eqb→eq, leb→le}
 use borrow.Author.Tests.{le-leb, not-true, not-false}
 use Rattle.answers.specs.Answer.{Returned, Cause, Each, Numbered, Passes, Reason, holds, fails, passes, answered, accept_with, sized, unless}

@@ -1,5 +1,6 @@
 -- What a call of the sheet job leaves, word by word.
-use Rattle.integers.specs.Kit.{◌≡◌, refl, sym, ap, ap₂, ◌∙◌, Bool, true, false, cond, List, ℕ, ◌+◌, ◌-◌, ◌*◌, ◌≤◌, ◌<◌, T, lit<, lit≤, ℤ, pos, length, get_or}
+use Rattle.std.specs.Prelude.{◌≡◌, ◌+◌, ◌-◌, ◌*◌, ◌≤◌, ◌<◌}
+use Rattle.integers.specs.Kit.{refl, sym, ap, ap₂, ◌∙◌, Bool, true, false, cond, List, ℕ, T, lit<, lit≤, ℤ, pos, length, get_or}
 use native.Mathlib.Omega.{arith}
 use Rattle.integers.specs.Table.{table, over}
 use Rattle.integers.proofs.Overwriting.{get_d_over, get_d_beyond}

@@ -1,5 +1,6 @@
 -- "A negative must mirror its positive" (02, request 3): what two calls leave, of a sample sheet and of the sheet with all samples negated.
-use Rattle.integers.specs.Kit.{◌≡◌, sym, ap, ◌∙◌, false, List, ℕ, suc, ◌+◌, ◌-◌, ◌*◌, ◌/◌, ◌%◌, ◌≤◌, ◌<◌, ℤ, pos, neg_ℤ, length, get_or}
+use Rattle.std.specs.Prelude.{◌≡◌, ◌+◌, ◌-◌, ◌*◌, ◌/◌, ◌%◌, ◌≤◌, ◌<◌}
+use Rattle.integers.specs.Kit.{sym, ap, ◌∙◌, false, List, ℕ, suc, ℤ, pos, neg_ℤ, length, get_or}
 use native.Mathlib.Omega.{arith}
 use Rattle.integers.proofs.Tables.{get_d_table}
 use Rattle.integers.specs.Range.{outside}

@@ -1,5 +1,6 @@
 -- Sheets of one film's positive and negative (02, request 3), for the theorems: `negative-accepted` and `negative-left`.
-use Rattle.integers.specs.Kit.{◌≡◌, List, ℕ, suc, ◌-◌, ◌<◌, neg_ℤ}
+use Rattle.std.specs.Prelude.{◌≡◌, ◌-◌, ◌<◌}
+use Rattle.integers.specs.Kit.{List, ℕ, suc, neg_ℤ}
 use Rattle.words.specs.Word.{kind, payload, value}
 use Rattle.sheet_checks.specs.Check.{word_at}
 

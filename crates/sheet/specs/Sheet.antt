@@ -1,5 +1,6 @@
 -- The sheet job (01, "Sheets" and "Why a set or sheet is turned back"; 02, request 5), for any words, any b and any buffers.
-use Rattle.integers.specs.Kit.{List, [], ◌∷◌, ◌++◌, ℕ, ◌-◌, leb, ℤ, length}
+use Rattle.std.specs.Prelude.{◌∷◌, ◌++◌, ◌-◌}
+use Rattle.integers.specs.Kit.{List, [], ℕ, leb, ℤ, length}
 use Rattle.integers.specs.Table.{over}
 use Rattle.answers.specs.Answer.{Cause, sized, unless, accept_with}
 use Rattle.answers.specs.Job.{Job}

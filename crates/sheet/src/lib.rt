@@ -4,7 +4,8 @@
 // coefficient sheet and gives both sums, a refused one leaves both buffers as they were and names the first cause.
 #![tactic(auto)]
 
-ghost use Rattle.integers.specs.Kit.{◌≡◌, length};
+ghost use Rattle.std.specs.Prelude.{◌≡◌};
+ghost use Rattle.integers.specs.Kit.{length};
 ghost use Rattle.answers.specs.Answer.{accept_with, answered, returned};
 ghost use Rattle.answers.specs.Job.{job_left, job_returned};
 ghost use Rattle.sheet_blocks.specs.Blocks.{element_scratch};

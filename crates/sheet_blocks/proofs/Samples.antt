@@ -1,6 +1,7 @@
 -- Where the blocks of a sheet stand; that the samples of a sheet that was checked are in range, and that the coefficients of its blocks are such as
 -- words can hold.
-use Rattle.integers.specs.Kit.{◌≡◌, sym, ap, ◌∙◌, List, ℕ, zero, suc, ◌+◌, ◌*◌, ◌/◌, ◌%◌, ◌<◌, T, lit<, lit≤, ℤ, pos, length, get_or}
+use Rattle.std.specs.Prelude.{◌≡◌, ◌+◌, ◌*◌, ◌/◌, ◌%◌, ◌<◌}
+use Rattle.integers.specs.Kit.{sym, ap, ◌∙◌, List, ℕ, zero, suc, T, lit<, lit≤, ℤ, pos, length, get_or}
 use native.Mathlib.Nat.{lt_of_le_of_lt, not-suc-le-zero, zero-lt-suc, zero-mul, mul-add, mul-one, mul_comm, mul-le-mul_left, div-lt_iff_lt-mul, div-add-mod, mod-lt}
 use native.Mathlib.Omega.{arith}
 use lib.Arith.{digits_div, digits_mod}

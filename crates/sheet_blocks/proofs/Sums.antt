@@ -1,5 +1,6 @@
 -- The two sums of a sheet: how they grow by a block, that 64 bits hold them, and that they are equal.
-use Rattle.integers.specs.Kit.{◌≡◌, refl, sym, ap, ap₂, ◌∙◌, List, ℕ, ◌+◌, ◌*◌, ◌^◌, ◌≤◌, ◌<◌, lit<, ℤ, pos, ◌+ℤ◌, nat_abs, length}
+use Rattle.std.specs.Prelude.{◌≡◌, ◌+◌, ◌*◌, ◌^◌, ◌≤◌, ◌<◌, ◌+ℤ◌}
+use Rattle.integers.specs.Kit.{refl, sym, ap, ap₂, ◌∙◌, List, ℕ, lit<, ℤ, pos, nat_abs, length}
 use Prim.Native.Nat.{zero-le}
 use native.Mathlib.Nat.{lt_of_le_of_lt, mul_comm}
 use native.Mathlib.Numerals.{add-one}

@@ -1,5 +1,6 @@
 -- The blocks of a sheet, and the words of the coefficient sheet (01, "Sheets").
-use Rattle.integers.specs.Kit.{cond, List, ℕ, suc, ◌+◌, ◌-◌, ◌*◌, ◌/◌, ◌%◌, eqb, ℤ, pos, length, get_or}
+use Rattle.std.specs.Prelude.{◌+◌, ◌-◌, ◌*◌, ◌/◌, ◌%◌}
+use Rattle.integers.specs.Kit.{cond, List, ℕ, suc, eqb, ℤ, pos, length, get_or}
 use Rattle.integers.specs.Table.{table}
 use Rattle.limits.specs.Limits.{places, components_size}
 use Rattle.blocks.specs.Blocks.{elements_of}

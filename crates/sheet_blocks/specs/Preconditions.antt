@@ -1,5 +1,6 @@
 -- What the functions ask, which is that the causes of refusal of the sheet job were ruled out, and what the loop over blocks leaves.
-use Rattle.integers.specs.Kit.{◌≡◌, List, ℕ, ◌+◌, ◌*◌, ◌^◌, ◌≤◌, ◌<◌, T, ℤ, pos, nat_abs, length, get_or}
+use Rattle.std.specs.Prelude.{◌≡◌, ◌+◌, ◌*◌, ◌^◌, ◌≤◌, ◌<◌}
+use Rattle.integers.specs.Kit.{List, ℕ, T, ℤ, pos, nat_abs, length, get_or}
 use Rattle.integers.specs.Table.{table, over_at}
 use Rattle.limits.specs.Limits.{places}
 use Rattle.coefficients.specs.Tables.{width}

@@ -1,5 +1,6 @@
 -- The two sums of a sheet (02, request 5): over the first k of its blocks, and over all.
-use Rattle.integers.specs.Kit.{◌≡◌, List, ℕ, ◌+◌, ◌*◌, ℤ, pos, ◌+ℤ◌}
+use Rattle.std.specs.Prelude.{◌≡◌, ◌+◌, ◌*◌, ◌+ℤ◌}
+use Rattle.integers.specs.Kit.{List, ℕ, ℤ, pos}
 use Rattle.integers.specs.Sum.{sum}
 use Rattle.limits.specs.Limits.{places}
 use Rattle.sheet_checks.specs.Check.{value_at, blocks}

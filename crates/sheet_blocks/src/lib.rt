@@ -4,7 +4,8 @@
 // loop carries is a record by value, with the sums of the samples and of the first coefficients so far.
 #![tactic(auto)]
 
-ghost use Rattle.integers.specs.Kit.{◌≡◌, ◌*◌, ◌+◌, ◌-◌, ◌<◌, ◌≤◌, T, ◌+ℤ◌, length};
+ghost use Rattle.std.specs.Prelude.{◌≡◌, ◌*◌, ◌+◌, ◌-◌, ◌<◌, ◌≤◌, ◌+ℤ◌};
+ghost use Rattle.integers.specs.Kit.{T, length};
 ghost use Rattle.std.specs.Int.{w64};
 ghost use Rattle.std.proofs.Common.{SFits};
 ghost use Rattle.integers.specs.Table.{over, table};

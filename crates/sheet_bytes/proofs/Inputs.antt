@@ -1,5 +1,6 @@
 -- The bytes that are read of an input, r of them, and what the sheet job answers for their words.
-use Rattle.integers.specs.Kit.{◌≡◌, refl, sym, ap, ap₂, ◌∙◌, List, ℕ, ◌*◌, ◌/◌, ◌%◌, ◌≤◌, ℤ, pos, length, take, replicate}
+use Rattle.std.specs.Prelude.{◌≡◌, ◌*◌, ◌/◌, ◌%◌, ◌≤◌}
+use Rattle.integers.specs.Kit.{refl, sym, ap, ap₂, ◌∙◌, List, ℕ, ℤ, pos, length, take, replicate}
 use Prim.Native.Nat.{min}
 use native.Mathlib.Decide.{dec_le}
 use native.Mathlib.Omega.{arith}

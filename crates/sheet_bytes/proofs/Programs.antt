@@ -1,5 +1,6 @@
 -- What a program writes, by the answer for the bytes that it reads.
-use Rattle.integers.specs.Kit.{◌≡◌, refl, ap, ◌∙◌, List, ℕ, ◌≤◌, T, lit<, length}
+use Rattle.std.specs.Prelude.{◌≡◌, ◌≤◌}
+use Rattle.integers.specs.Kit.{refl, ap, ◌∙◌, List, ℕ, T, lit<, length}
 use native.Mathlib.Omega.{arith}
 use lib.ListN.{length-append}
 use Rattle.io.specs.Counts.{IsPrefixLen}

@@ -1,6 +1,7 @@
 -- What the programs over sheets share (01, "Sheets"; 02, request 5): the bytes that they read, as words; what is answered for these; and the line
 -- of a refusal.
-use Rattle.integers.specs.Kit.{List, [], ◌∷◌, ◌++◌, ℕ, ◌+◌, ◌*◌, ◌/◌, ◌%◌, ◌^◌, eqb, length, get_or}
+use Rattle.std.specs.Prelude.{◌∷◌, ◌++◌, ◌+◌, ◌*◌, ◌/◌, ◌%◌, ◌^◌}
+use Rattle.integers.specs.Kit.{List, [], ℕ, eqb, length, get_or}
 use Rattle.integers.specs.Table.{table}
 use Rattle.limits.specs.Limits.{blocks_limit, components_size}
 use Rattle.answers.specs.Answer.{Returned, Cause, unless_at, answered, accept_with}

@@ -2,8 +2,8 @@
 // the line of a refusal.
 #![tactic(auto)]
 
-ghost use Rattle.integers.specs.Kit.{◌≡◌, ◌+◌, ◌/◌, ◌≤◌, length, take};
-ghost use Rattle.std.specs.Prelude.{min};
+ghost use Rattle.std.specs.Prelude.{◌≡◌, ◌+◌, ◌/◌, ◌≤◌, min};
+ghost use Rattle.integers.specs.Kit.{length, take};
 ghost use Rattle.integers.specs.Table.{over};
 ghost use Rattle.answers.specs.Answer.{returned};
 ghost use Rattle.sheet_blocks.specs.Blocks.{coefficient_sheet};

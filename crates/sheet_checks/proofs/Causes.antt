@@ -1,5 +1,6 @@
 -- The causes of a sheet as a whole, for a job that asks for no others: which sheets pass, and each way out of `check_sheet`.
-use Rattle.integers.specs.Kit.{◌≡◌, false, List, [], ◌∷◌, ℕ, T, eqb, lit<, length}
+use Rattle.std.specs.Prelude.{◌≡◌, ◌∷◌}
+use Rattle.integers.specs.Kit.{false, List, [], ℕ, T, eqb, lit<, length}
 use Rattle.answers.specs.Answer.{Returned, Each, Passes, Reason, holds, passes, none_holds, accept_with, accepted, answered}
 use Rattle.answers.proofs.Causes.{excludes, only_reason, some_reason, accepted_means, refused_before, passed_before, refused-number, accepted-number}
 use Rattle.sheet_checks.specs.declared.Format.{Format}

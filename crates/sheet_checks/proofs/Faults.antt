@@ -1,5 +1,6 @@
 -- The words of a sheet: the fault of each by the code's tests, and the search for the first faulty one.
-use Rattle.integers.specs.Kit.{◌≡◌, refl, sym, ap, subst, ◌∙◌, Bool, true, false, cond, not, List, [], ◌∷◌, ℕ, suc, ◌<◌, T, eqb, ℤ, length}
+use Rattle.std.specs.Prelude.{◌≡◌, ◌∷◌, ◌<◌}
+use Rattle.integers.specs.Kit.{refl, sym, ap, subst, ◌∙◌, Bool, true, false, cond, not, List, [], ℕ, suc, T, eqb, ℤ, length}
 use native.Mathlib.Decide.{dec_lt}
 use native.Mathlib.Omega.{arith}
 use mir.Syntax.{w32}

@@ -1,5 +1,6 @@
 -- The head of a sheet, as the code looks at it: a head is allowed where the product of its sizes is neither 0 nor above the limit.
-use Rattle.integers.specs.Kit.{◌≡◌, refl, Bool, true, false, cond, ◌&&◌, List, ℕ, zero, suc, ◌*◌, ◌≤◌, ◌<◌, T, eqb, ltb, leb, length}
+use Rattle.std.specs.Prelude.{◌≡◌, ◌&&◌, ◌*◌, ◌≤◌, ◌<◌}
+use Rattle.integers.specs.Kit.{refl, Bool, true, false, cond, List, ℕ, zero, suc, T, eqb, ltb, leb, length}
 use Prim.Native.Nat.{zero-le}
 use native.Mathlib.Nat.{zero-mul, mul-zero, mul-pos}
 use native.Mathlib.Omega.{arith}

@@ -1,5 +1,6 @@
 -- A sheet passes the check exactly when it is a valid sheet as 01 describes it; and a word is refused exactly for one of the faults that 01 names.
-use Rattle.integers.specs.Kit.{◌≡◌, sym, ap, subst, ◌∙◌, true, false, not, List, [], ◌∷◌, ℕ, zero, suc, ◌-◌, ◌≤◌, ◌<◌, T, eqb, nat_abs, length}
+use Rattle.std.specs.Prelude.{◌≡◌, ◌∷◌, ◌-◌, ◌≤◌, ◌<◌}
+use Rattle.integers.specs.Kit.{sym, ap, subst, ◌∙◌, true, false, not, List, [], ℕ, zero, suc, T, eqb, nat_abs, length}
 use native.Mathlib.Nat.{mul-pos}
 use native.Mathlib.Decide.{ℕ_discrete}
 use native.Mathlib.Omega.{arith}

@@ -1,5 +1,6 @@
 -- The check of a sheet of any format (01, "Sheets" and "Why a set or sheet is turned back").
-use Rattle.integers.specs.Kit.{Bool, cond, not, ◌&&◌, ◌||◌, List, [], ◌∷◌, ◌++◌, ℕ, suc, ◌+◌, ◌*◌, eqb, ltb, leb, ℤ, pos, neg_ℤ, length, get_or}
+use Rattle.std.specs.Prelude.{◌&&◌, ◌||◌, ◌∷◌, ◌++◌, ◌+◌, ◌*◌}
+use Rattle.integers.specs.Kit.{Bool, cond, not, List, [], ℕ, suc, eqb, ltb, leb, ℤ, pos, neg_ℤ, length, get_or}
 use Rattle.integers.specs.Range.{outside}
 use Rattle.limits.specs.Limits.{places, blocks_limit, coefficient_limit, lowest_sample, highest_sample}
 use Rattle.words.specs.Word.{across, coefficient_head_kind, coefficient_kind, down, end_kind, kind, payload, sample_head_kind, sample_kind, value}

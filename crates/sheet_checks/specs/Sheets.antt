@@ -1,6 +1,7 @@
 -- A valid sheet of any format as 01 describes it ("Sheets"), and why a word of another is refused ("Why a set or sheet is turned back"), for the
 -- theorems: `shape_passes`, `contents_pass` and `valid_sheet`; `in_words` and `by_words`.
-use Rattle.integers.specs.Kit.{◌≡◌, true, false, List, ℕ, suc, ◌-◌, ◌≤◌, ◌<◌, length}
+use Rattle.std.specs.Prelude.{◌≡◌, ◌-◌, ◌≤◌, ◌<◌}
+use Rattle.integers.specs.Kit.{true, false, List, ℕ, suc, length}
 use Rattle.limits.specs.Limits.{blocks_limit}
 use Rattle.words.specs.Word as format
 use Rattle.words.specs.Word.{across, down, kind, payload, value}

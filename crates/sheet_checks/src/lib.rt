@@ -2,7 +2,8 @@
 // for, and which of these is the first that has a fault? The format is a parameter, so that every kind of sheet can have the same check.
 #![tactic(auto)]
 
-ghost use Rattle.integers.specs.Kit.{◌≡◌, true, [], ◌∷◌, ◌<◌, ◌≤◌, length};
+ghost use Rattle.std.specs.Prelude.{◌≡◌, ◌∷◌, ◌<◌, ◌≤◌};
+ghost use Rattle.integers.specs.Kit.{true, [], length};
 ghost use Rattle.integers.specs.Search.{any};
 ghost use Rattle.limits.specs.Limits.{blocks_limit};
 ghost use Rattle.answers.specs.Answer.{accept_with, answered, returned};

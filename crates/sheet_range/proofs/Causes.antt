@@ -1,5 +1,6 @@
 -- Which calls of `sheet_range` are accepted: those with a coefficient sheet as 02 describes it.
-use Rattle.integers.specs.Kit.{◌≡◌, List, [], ℕ, length}
+use Rattle.std.specs.Prelude.{◌≡◌}
+use Rattle.integers.specs.Kit.{List, [], ℕ, length}
 use Rattle.answers.specs.Answer.{Returned, Reason, accept, accept_with, answered}
 use Rattle.answers.specs.Job.{job_returned, Accepts, Refuses}
 use Rattle.answers.proofs.Causes.{only_reason, some_reason, refused_before, refused-number, accepted-number}

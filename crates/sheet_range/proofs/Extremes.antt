@@ -1,6 +1,7 @@
 -- The least and the greatest value of words: what they are, and how the loops along a block and along the sheet keep them. Both are what is picked by an
 -- order, for which the laws are stated.
-use Rattle.integers.specs.Kit.{◌≡◌, refl, ap, ap₂, ◌∙◌, Bool, true, false, cond, List, ℕ, zero, suc, ◌+◌, ◌-◌, ◌*◌, ◌^◌, ◌≤◌, ◌<◌, lit<, lit≤, ℤ, nat_abs, length}
+use Rattle.std.specs.Prelude.{◌≡◌, ◌+◌, ◌-◌, ◌*◌, ◌^◌, ◌≤◌, ◌<◌}
+use Rattle.integers.specs.Kit.{refl, ap, ap₂, ◌∙◌, Bool, true, false, cond, List, ℕ, zero, suc, lit<, lit≤, ℤ, nat_abs, length}
 use native.Mathlib.Nat.{lt_of_le_of_lt}
 use native.Mathlib.Decide.{dec_lt}
 use native.Mathlib.Omega.{arith}

@@ -1,5 +1,6 @@
 -- What a call of `sheet_range` gives, in 02's words (request 4); and that what `sheet` writes is a sheet that it accepts.
-use Rattle.integers.specs.Kit.{◌≡◌, refl, sym, ap, ap₂, ◌∙◌, Bool, false, List, ℕ, suc, ◌+◌, ◌-◌, ◌*◌, ◌/◌, ◌%◌, ◌≤◌, ◌<◌, T, lit<, lit≤, ℤ, pos, nat_abs, length, get_or}
+use Rattle.std.specs.Prelude.{◌≡◌, ◌+◌, ◌-◌, ◌*◌, ◌/◌, ◌%◌, ◌≤◌, ◌<◌}
+use Rattle.integers.specs.Kit.{refl, sym, ap, ap₂, ◌∙◌, Bool, false, List, ℕ, suc, T, lit<, lit≤, ℤ, pos, nat_abs, length, get_or}
 use native.Mathlib.Nat.{div-add-mod, mod-lt}
 use native.Mathlib.Omega.{arith}
 use lib.Ieee.{Float, le}

@@ -1,5 +1,6 @@
 -- What the functions behind `sheet_range` ask: that every cause was ruled out.
-use Rattle.integers.specs.Kit.{List, ℕ, ◌+◌, ◌≤◌, ◌<◌, length}
+use Rattle.std.specs.Prelude.{◌+◌, ◌≤◌, ◌<◌}
+use Rattle.integers.specs.Kit.{List, ℕ, length}
 use Rattle.limits.specs.Limits.{places}
 use Rattle.sheet_checks.specs.Check.{coefficient_format}
 use Rattle.sheet_checks.specs.Sheets.{ValidSheet}

@@ -1,6 +1,6 @@
 -- The job `sheet_range` (02, request 4), for any words.
-use Rattle.integers.specs.Kit.{cond, List, ℕ, zero, suc, ◌+◌, ◌-◌, ℤ, length}
-use Rattle.std.specs.Prelude.{Float}
+use Rattle.std.specs.Prelude.{◌+◌, ◌-◌, Float}
+use Rattle.integers.specs.Kit.{cond, List, ℕ, zero, suc, ℤ, length}
 use Rattle.std.specs.Int.Signed.{lt_z}
 use Rattle.answers.specs.Answer.{accept}
 use Rattle.answers.specs.Job.{Job}

@@ -3,7 +3,8 @@
 // `sheet_range` takes any words. It looks at all of them before it answers: a refused sheet gives no float but plus zero, and names the first cause.
 #![tactic(auto)]
 
-ghost use Rattle.integers.specs.Kit.{◌≡◌, cond, ◌-◌};
+ghost use Rattle.std.specs.Prelude.{◌≡◌, ◌-◌};
+ghost use Rattle.integers.specs.Kit.{cond};
 ghost use Rattle.std.specs.Float.Ieee.{lt};
 ghost use Rattle.limits.specs.Limits.{places};
 ghost use Rattle.answers.specs.Answer.{returned};

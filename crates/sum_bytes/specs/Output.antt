@@ -1,5 +1,6 @@
 -- What `sum_sheet` writes for the bytes that it reads (02, request 5): a line with both sums, or the line of a refusal.
-use Rattle.integers.specs.Kit.{List, [], ◌∷◌, ◌++◌, ℕ, ℤ}
+use Rattle.std.specs.Prelude.{◌∷◌, ◌++◌}
+use Rattle.integers.specs.Kit.{List, [], ℕ, ℤ}
 use Rattle.text.specs.Decimal.{signed_decimal}
 use Rattle.sheet_blocks.specs.Sums.{firsts_total, samples_total}
 use Rattle.sheet_bytes.specs.Program.{program_bytes, program_width}

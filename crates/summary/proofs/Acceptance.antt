@@ -1,5 +1,6 @@
 -- Which calls of summary are accepted: those with 64 coefficients within the limit.
-use Rattle.integers.specs.Kit.{◌≡◌, List, lit<, ℤ}
+use Rattle.std.specs.Prelude.{◌≡◌}
+use Rattle.integers.specs.Kit.{List, lit<, ℤ}
 use Rattle.answers.specs.Answer.{accept}
 use Rattle.answers.specs.Job.{job_returned, Accepts}
 use Rattle.answers.proofs.Jobs as jobs

@@ -1,5 +1,6 @@
 -- The largest of a block's coefficients but the first: in 02's words, and as the loops find it.
-use Rattle.integers.specs.Kit.{◌≡◌, refl, sym, ap, subst, ◌∙◌, Bool, cond, List, ℕ, zero, suc, ◌+◌, ◌≤◌, ◌<◌, T, ltb, lit<, lit≤, ℤ, pos, negsuc, nat_abs, ◌-◌}
+use Rattle.std.specs.Prelude.{◌≡◌, ◌+◌, ◌≤◌, ◌<◌, ◌-◌}
+use Rattle.integers.specs.Kit.{refl, sym, ap, subst, ◌∙◌, Bool, cond, List, ℕ, zero, suc, T, ltb, lit<, lit≤, ℤ, pos, negsuc, nat_abs}
 use native.Mathlib.Decide.{ℕ_discrete}
 use native.Mathlib.Nat.{lt_of_le_of_lt, lt_of_lt_of_le, not-suc-le-zero}
 use native.Mathlib.Omega.{arith}

@@ -1,5 +1,6 @@
 -- What calls of summary give, in 02's words (request 4).
-use Rattle.integers.specs.Kit.{◌≡◌, refl, sym, ap, ◌∙◌, Bool, true, false, cond, List, ℕ, ◌<◌, T, eqb, lit<, lit≤, ℤ, pos}
+use Rattle.std.specs.Prelude.{◌≡◌, ◌<◌}
+use Rattle.integers.specs.Kit.{refl, sym, ap, ◌∙◌, Bool, true, false, cond, List, ℕ, T, eqb, lit<, lit≤, ℤ, pos}
 use native.Mathlib.Nat.{suc-ne-zero}
 use lib.Ieee.{Float}
 use lib.Ieee.Exact.{HasValue}

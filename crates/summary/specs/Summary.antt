@@ -1,6 +1,6 @@
 -- The job `summary` (02, request 4), for any numbers and any buffer.
-use Rattle.integers.specs.Kit.{Bool, cond, List, ℕ, suc, ◌≤◌, ◌<◌, ltb, ℤ, pos, nat_abs, ◌-◌}
-use Rattle.std.specs.Prelude.{Float}
+use Rattle.std.specs.Prelude.{◌≤◌, ◌<◌, ◌-◌, Float}
+use Rattle.integers.specs.Kit.{Bool, cond, List, ℕ, suc, ltb, ℤ, pos, nat_abs}
 use Rattle.integers.specs.Search.{foremost}
 use Rattle.integers.specs.Test.{every, eq_z}
 use Rattle.limits.specs.Limits.{places}

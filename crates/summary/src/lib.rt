@@ -3,7 +3,8 @@
 // It takes any numbers. An accepted call gives the grey of the block; a refused one gives plus zero, and names the first cause.
 #![tactic(auto)]
 
-ghost use Rattle.integers.specs.Kit.{◌≡◌, ◌≤◌, pos, nat_abs};
+ghost use Rattle.std.specs.Prelude.{◌≡◌, ◌≤◌};
+ghost use Rattle.integers.specs.Kit.{pos, nat_abs};
 ghost use Rattle.limits.specs.Limits.{coefficient_limit};
 ghost use Rattle.answers.specs.Answer.{returned};
 ghost use Rattle.answers.specs.Job.{job_left, job_returned};

@@ -1,5 +1,6 @@
 -- The digits that `io::decimal` makes of a number are those of the definition, and a number of 64 bits has at most 20; and the sign.
-use Rattle.integers.specs.Kit.{◌≡◌, refl, sym, ap, subst, Bool, true, false, [], ◌∷◌, ◌++◌, ℕ, zero, suc, ◌-◌, ◌^◌, ◌≤◌, ◌<◌, T, ltb, ℤ, pos, negsuc, nat_abs}
+use Rattle.std.specs.Prelude.{◌≡◌, ◌∷◌, ◌++◌, ◌-◌, ◌^◌, ◌≤◌, ◌<◌}
+use Rattle.integers.specs.Kit.{refl, sym, ap, subst, Bool, true, false, [], ℕ, zero, suc, T, ltb, ℤ, pos, negsuc, nat_abs}
 use native.Mathlib.Nat.{le_trans, not-suc-le-zero, pow-le-pow_right, pow-suc}
 use native.Mathlib.Decide.{dec_lt}
 use native.Mathlib.Numerals.{sub-one}

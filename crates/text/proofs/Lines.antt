@@ -1,5 +1,6 @@
 -- A line that is written part after part: each part is lent the rest of the buffer, and two parts are one.
-use Rattle.integers.specs.Kit.{◌≡◌, refl, ap, ◌∙◌, List, ◌++◌, ℕ, ◌+◌, ◌≤◌, length, take, drop}
+use Rattle.std.specs.Prelude.{◌≡◌, ◌++◌, ◌+◌, ◌≤◌}
+use Rattle.integers.specs.Kit.{refl, ap, ◌∙◌, List, ℕ, length, take, drop}
 use native.Mathlib.Omega.{arith}
 use lib.ListN.{length-append}
 use Rattle.integers.specs.Table.{over, over_at}

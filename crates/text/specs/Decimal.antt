@@ -1,6 +1,7 @@
 -- Whole numbers in decimal, as text in ASCII (01, "Sheets"; 02, request 5). First what the text of a number is, for the theorems: `decimal_text` and
 -- `signed_text` say that the definitions after it give it, and `only-decimal` and `only-signed` that no other text is one.
-use Rattle.integers.specs.Kit.{◌≡◌, List, [], ◌∷◌, ℕ, suc, ◌+◌, ◌-◌, ◌*◌, ◌^◌, ◌≤◌, ◌<◌, ltb, ℤ, pos, negsuc, length, get_or}
+use Rattle.std.specs.Prelude.{◌≡◌, ◌∷◌, ◌+◌, ◌-◌, ◌*◌, ◌^◌, ◌≤◌, ◌<◌}
+use Rattle.integers.specs.Kit.{List, [], ℕ, suc, ltb, ℤ, pos, negsuc, length, get_or}
 use Rattle.io.specs.Digits.{last_digits}
 use Rattle.integers.specs.Search.{first}
 

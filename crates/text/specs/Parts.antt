@@ -1,5 +1,6 @@
 -- A line that is written part after part into a buffer.
-use Rattle.integers.specs.Kit.{◌≡◌, List, ℕ, ◌+◌, ◌≤◌, length}
+use Rattle.std.specs.Prelude.{◌≡◌, ◌+◌, ◌≤◌}
+use Rattle.integers.specs.Kit.{List, ℕ, length}
 use Rattle.integers.specs.Table.{over_at}
 
 -- `part` was written into the buffer from index `at` on, where it has room, and ends at r: before it and behind it the buffer is as it was

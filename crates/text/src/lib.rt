@@ -1,7 +1,8 @@
 // Text that is written part after part into a buffer: fixed bytes, and whole numbers in decimal (01, "Sheets"; 02, request 5).
 #![tactic(auto)]
 
-ghost use Rattle.integers.specs.Kit.{◌≡◌, ◌+◌, ◌≤◌, length};
+ghost use Rattle.std.specs.Prelude.{◌≡◌, ◌+◌, ◌≤◌};
+ghost use Rattle.integers.specs.Kit.{length};
 ghost use Rattle.integers.specs.Table.{over};
 ghost use Rattle.text.specs.Decimal.{decimal, signed_decimal};
 ghost use Rattle.text.specs.Parts.{Appended};

@@ -1,5 +1,6 @@
 -- Which calls of to_floats are accepted: those with 64 coefficients within the limit, and room for 64 floats.
-use Rattle.integers.specs.Kit.{◌≡◌, List, ℕ, ◌≤◌, ◌<◌, lit<, ℤ, nat_abs, length}
+use Rattle.std.specs.Prelude.{◌≡◌, ◌≤◌, ◌<◌}
+use Rattle.integers.specs.Kit.{List, ℕ, lit<, ℤ, nat_abs, length}
 use lib.Dec.{eqb→eq}
 use lib.Ieee.{Float}
 use Rattle.integers.proofs.Ranges.{within_limit}

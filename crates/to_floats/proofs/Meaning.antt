@@ -1,5 +1,6 @@
 -- What calls of to_floats leave, in 02's words (request 4).
-use Rattle.integers.specs.Kit.{◌≡◌, List, ℕ, ◌<◌, lit≤, ℤ, nat_abs, get_or}
+use Rattle.std.specs.Prelude.{◌≡◌, ◌<◌}
+use Rattle.integers.specs.Kit.{List, ℕ, lit≤, ℤ, nat_abs, get_or}
 use lib.Ieee.{Float, lt}
 use lib.Ieee.Exact.{HasValue}
 use lib.Signed.{lt_z}

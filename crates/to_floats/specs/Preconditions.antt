@@ -1,5 +1,6 @@
 -- What the functions behind `to_floats` and `summary` ask: that causes were ruled out.
-use Rattle.integers.specs.Kit.{◌≡◌, false, List, ℕ, ◌<◌, ℤ, length}
+use Rattle.std.specs.Prelude.{◌≡◌, ◌<◌}
+use Rattle.integers.specs.Kit.{false, List, ℕ, ℤ, length}
 use Rattle.integers.specs.Range.{beyond_at}
 use Rattle.limits.specs.Limits.{places, coefficient_limit}
 

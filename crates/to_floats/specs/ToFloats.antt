@@ -1,6 +1,6 @@
 -- The job `to_floats` (02, request 4), for any numbers and any buffers.
-use Rattle.integers.specs.Kit.{List, [], ◌∷◌, ℕ, ℤ, pos, length, get_or}
-use Rattle.std.specs.Prelude.{Float}
+use Rattle.std.specs.Prelude.{◌∷◌, Float}
+use Rattle.integers.specs.Kit.{List, [], ℕ, ℤ, pos, length, get_or}
 use Rattle.integers.specs.Range.{beyond_at}
 use Rattle.integers.specs.Table.{table}
 use Rattle.limits.specs.Limits.{places, coefficient_limit}

@@ -3,7 +3,8 @@
 // It takes any numbers and any buffers. An accepted call leaves 64 floats; a refused one leaves the buffer as it was, and names the first cause.
 #![tactic(auto)]
 
-ghost use Rattle.integers.specs.Kit.{◌≡◌, length};
+ghost use Rattle.std.specs.Prelude.{◌≡◌};
+ghost use Rattle.integers.specs.Kit.{length};
 ghost use Rattle.limits.specs.Limits.{places};
 ghost use Rattle.answers.specs.Answer.{accept, answered, returned};
 ghost use Rattle.answers.specs.Job.{job_left, job_returned};

@@ -1,5 +1,6 @@
 -- The bytes of a coefficient sheet that was written.
-use Rattle.integers.specs.Kit.{◌≡◌, sym, ap, ◌∙◌, List, ℕ, ◌*◌, ◌/◌, ◌%◌, ◌≤◌, length, take}
+use Rattle.std.specs.Prelude.{◌≡◌, ◌*◌, ◌/◌, ◌%◌, ◌≤◌}
+use Rattle.integers.specs.Kit.{sym, ap, ◌∙◌, List, ℕ, length, take}
 use native.Mathlib.Omega.{arith}
 use Rattle.integers.specs.Table.{over}
 use Rattle.integers.proofs.Overwriting.{length_over, take-over}

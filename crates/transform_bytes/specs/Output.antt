@@ -1,5 +1,6 @@
 -- What `transform_sheet` writes for the bytes that it reads (01, "Sheets"): the bytes of the coefficient sheet, or the line of a refusal.
-use Rattle.integers.specs.Kit.{List, ℕ, ◌-◌, ◌*◌, ◌/◌, ◌%◌, ◌^◌, length}
+use Rattle.std.specs.Prelude.{◌-◌, ◌*◌, ◌/◌, ◌%◌, ◌^◌}
+use Rattle.integers.specs.Kit.{List, ℕ, length}
 use Rattle.integers.specs.Table.{table}
 use Rattle.sheet_checks.specs.Check.{word_at}
 use Rattle.sheet_blocks.specs.Blocks.{coefficient_sheet}

@@ -4,7 +4,8 @@
 // refusal included; the program only reads, calls it and writes.
 #![tactic(auto)]
 
-ghost use Rattle.integers.specs.Kit.{◌≡◌, ◌*◌, ◌≤◌, ◌<◌, length, take};
+ghost use Rattle.std.specs.Prelude.{◌≡◌, ◌*◌, ◌≤◌, ◌<◌};
+ghost use Rattle.integers.specs.Kit.{length, take};
 ghost use Rattle.io.specs.Counts.{IsPrefixLen};
 ghost use Rattle.integers.specs.Table.{over};
 ghost use Rattle.sheet_bytes.specs.Program.{input_limit};

@@ -7,7 +7,8 @@
 // language has to see to, because no function can look at it, the header says.
 #![tactic(auto)]
 
-ghost use Rattle.integers.specs.Kit.{◌≡◌, T};
+ghost use Rattle.std.specs.Prelude.{◌≡◌};
+ghost use Rattle.integers.specs.Kit.{T};
 ghost use Rattle.answers.specs.Answer.{accepted, returned};
 ghost use Rattle.answers.specs.Job.{job_left, job_returned};
 ghost use Rattle.summary.specs.Summary.{summary_job};

@@ -1,5 +1,6 @@
 -- Packing and unpacking are inverse, on the ranges of kinds, payloads, values and sizes.
-use Rattle.integers.specs.Kit.{◌≡◌, refl, sym, ap, ◌∙◌, true, false, ℕ, suc, ◌+◌, ◌-◌, ◌*◌, ◌%◌, ◌^◌, ◌≤◌, ◌<◌, lit<, ℤ, pos, negsuc, ◌+ℤ◌, ◌-ℤ◌, neg_ℤ, nat_abs}
+use Rattle.std.specs.Prelude.{◌≡◌, ◌+◌, ◌-◌, ◌*◌, ◌%◌, ◌^◌, ◌≤◌, ◌<◌, ◌+ℤ◌, ◌-ℤ◌}
+use Rattle.integers.specs.Kit.{refl, sym, ap, ◌∙◌, true, false, ℕ, suc, lit<, ℤ, pos, negsuc, neg_ℤ, nat_abs}
 use Prim.Native.Nat.{zero-le}
 use native.Mathlib.Decide.{dec_lt}
 use native.Mathlib.Nat.{not-suc-le-zero, lt_of_le_of_lt}

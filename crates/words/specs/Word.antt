@@ -1,5 +1,6 @@
 -- Words of a sheet (01, "Sheets"): "a word has 32 bits, its top four bits the kind, the other 28 the payload".
-use Rattle.integers.specs.Kit.{cond, ℕ, ◌+◌, ◌-◌, ◌*◌, ◌/◌, ◌%◌, ◌^◌, ltb, ℤ, pos, ◌-ℤ◌, nat_abs}
+use Rattle.std.specs.Prelude.{◌+◌, ◌-◌, ◌*◌, ◌/◌, ◌%◌, ◌^◌, ◌-ℤ◌}
+use Rattle.integers.specs.Kit.{cond, ℕ, ltb, ℤ, pos, nat_abs}
 use Rattle.std.specs.Int.Signed.{lt_z}
 
 -- how many payloads there are

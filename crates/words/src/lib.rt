@@ -1,7 +1,8 @@
 // Words of a sheet (01, "Sheets"): 32 bits, of which the top four are the kind and the others the payload.
 #![tactic(auto)]
 
-ghost use Rattle.integers.specs.Kit.{◌≡◌, ◌*◌, ◌<◌, nat_abs};
+ghost use Rattle.std.specs.Prelude.{◌≡◌, ◌*◌, ◌<◌};
+ghost use Rattle.integers.specs.Kit.{nat_abs};
 ghost use Rattle.words.specs.Word as words;
 
 // 01's table of kinds.

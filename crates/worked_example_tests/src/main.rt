@@ -3,7 +3,7 @@
 // returns, of a sheet both sums, and then some numbers of its buffers, which held 7 before; words are in hexadecimal.
 #![tactic(auto)]
 
-ghost use Rattle.integers.specs.Kit.{◌<◌};
+ghost use Rattle.std.specs.Prelude.{◌<◌};
 
 use answers::Answer;
 use back::back;

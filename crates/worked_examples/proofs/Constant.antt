@@ -1,5 +1,6 @@
 -- A block whose samples are all the same: at most one of its elements is not 0.
-use Rattle.integers.specs.Kit.{◌≡◌, sym, ap, ◌∙◌, Bool, cond, List, [], ℕ, ◌+◌, ◌*◌, ◌/◌, ◌%◌, ◌<◌, T, eqb, ℤ, pos, ◌*ℤ◌}
+use Rattle.std.specs.Prelude.{◌≡◌, ◌+◌, ◌*◌, ◌/◌, ◌%◌, ◌<◌, ◌*ℤ◌}
+use Rattle.integers.specs.Kit.{sym, ap, ◌∙◌, Bool, cond, List, [], ℕ, T, eqb, ℤ, pos}
 use native.Mathlib.Decide.{ℕ_discrete}
 use native.Mathlib.Omega.{arith}
 use lib.IntN.{*ℤ-zero}

@@ -1,6 +1,7 @@
 -- The worked examples that 01 stars ("Films to try"), as changed by 02, and the ends of the range: what the definitions give, and what the papers say, or
 -- what follows from their rules.
-use Rattle.integers.specs.Kit.{◌≡◌, Bool, true, cond, List, [], ◌∷◌, ℕ, ◌+◌, ◌*◌, eqb, lit<, ℤ, pos, neg_ℤ}
+use Rattle.std.specs.Prelude.{◌≡◌, ◌∷◌, ◌+◌, ◌*◌}
+use Rattle.integers.specs.Kit.{Bool, true, cond, List, [], ℕ, eqb, lit<, ℤ, pos, neg_ℤ}
 use Rattle.integers.specs.Table.{table}
 use Rattle.ring.specs.Element.{add, subtract, integer, only, cosine, mul}
 use Rattle.limits.specs.Limits.{places, components_size, halvings}

@@ -1,5 +1,6 @@
 -- `check` meets its contract: each way out is a law of causes.
-use Rattle.integers.specs.Kit.{◌≡◌, sym, ap, ◌∙◌, not, pos, length, get_or}
+use Rattle.std.specs.Prelude.{◌≡◌}
+use Rattle.integers.specs.Kit.{sym, ap, ◌∙◌, not, pos, length, get_or}
 use borrow.Author.Rules.{rules}
 use Rattle.integers.proofs.Ranges.{within_limit}
 use Rattle.integers.proofs.Search.{any_none}

@@ -1,5 +1,5 @@
 -- `same` meets its contract: the loop goes over all indices, and keeps whether the buffers agree so far.
-use Rattle.integers.specs.Kit.{◌-◌}
+use Rattle.std.specs.Prelude.{◌-◌}
 use Rattle.back.proofs.Comparison.{Agreed}
 use Rattle.back.proofs.same.Given as goal
 

@@ -1,5 +1,6 @@
 -- `store` meets its contract: the loop copies from the front.
-use Rattle.integers.specs.Kit.{◌-◌, pos, get_or}
+use Rattle.std.specs.Prelude.{◌-◌}
+use Rattle.integers.specs.Kit.{pos, get_or}
 use Rattle.integers.proofs.Tables.{Filled}
 use Rattle.back.proofs.store.Given as goal
 

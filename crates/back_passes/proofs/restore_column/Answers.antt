@@ -1,5 +1,6 @@
 -- `restore_column` meets its contract: what stands at one place of the rows, summed, divided and stored.
-use Rattle.integers.specs.Kit.{ap, ◌∙◌, ◌/◌, ◌<◌}
+use Rattle.std.specs.Prelude.{◌/◌, ◌<◌}
+use Rattle.integers.specs.Kit.{ap, ◌∙◌}
 use native.Mathlib.Omega.{arith}
 use lib.Signed.{shr_z}
 use Rattle.ring.specs.Element.{component}

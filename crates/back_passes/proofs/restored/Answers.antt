@@ -1,5 +1,6 @@
 -- `restored` meets its contract: the columns, one after the other, are all that a block has.
-use Rattle.integers.specs.Kit.{sym, ap, List, ◌∷◌, ℕ, ◌/◌, ◌%◌, ℤ, pos}
+use Rattle.std.specs.Prelude.{◌∷◌, ◌/◌, ◌%◌}
+use Rattle.integers.specs.Kit.{sym, ap, List, ℕ, ℤ, pos}
 use native.Mathlib.Omega.{arith}
 use lib.ListN.{length-replicate}
 use lib.Signed.{shr_z}

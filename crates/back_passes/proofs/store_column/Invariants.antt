@@ -1,5 +1,5 @@
 -- `store_column` meets its contract: the loop stores number after number.
-use Rattle.integers.specs.Kit.{◌-◌, ◌/◌}
+use Rattle.std.specs.Prelude.{◌-◌, ◌/◌}
 use lib.Signed.{shr_z}
 use Rattle.back_passes.specs.Passes.{numbers}
 use Rattle.back_passes.proofs.Columns.{ColumnBegun}

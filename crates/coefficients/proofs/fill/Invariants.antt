@@ -1,5 +1,6 @@
 -- `fill` meets its contract: the loop fills the coefficients one by one, and each is a number of an i32.
-use Rattle.integers.specs.Kit.{◌-◌, pos}
+use Rattle.std.specs.Prelude.{◌-◌}
+use Rattle.integers.specs.Kit.{pos}
 use Rattle.integers.proofs.Tables.{Filled}
 use Rattle.limits.specs.Limits.{places, halvings}
 use Rattle.coefficients.specs.Coefficients.{coefficient_at}

@@ -1,5 +1,5 @@
 -- `half_used` meets its contract: the loop looks at every second component.
-use Rattle.integers.specs.Kit.{◌-◌}
+use Rattle.std.specs.Prelude.{◌-◌}
 use Rattle.coefficients.proofs.Halves.{Looked}
 use Rattle.coefficients.proofs.half_used.Given as goal
 

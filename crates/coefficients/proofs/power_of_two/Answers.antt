@@ -1,5 +1,6 @@
 -- `power_of_two` meets its contract: the bit that is shifted stays below the sign.
-use Rattle.integers.specs.Kit.{◌≡◌, ap, ◌∙◌, ◌*◌, ◌^◌, ◌%◌, lit<}
+use Rattle.std.specs.Prelude.{◌≡◌, ◌*◌, ◌^◌, ◌%◌}
+use Rattle.integers.specs.Kit.{ap, ◌∙◌, lit<}
 use native.Mathlib.Nat.{one-mul}
 use native.Mathlib.Omega.{arith}
 use lib.Pow.{pow-lt, shl_exact}

@@ -1,5 +1,5 @@
 -- `sum_of_terms` meets its contract: the loop adds one product after the other, and none of the sums is above `largest`.
-use Rattle.integers.specs.Kit.{◌-◌}
+use Rattle.std.specs.Prelude.{◌-◌}
 use Rattle.coefficients.proofs.Halves.{Summed}
 use Rattle.coefficients.proofs.sum_of_terms.Given as goal
 

@@ -1,5 +1,6 @@
 -- `dequantize` meets its contract: the check of the steps and the products decide, and `narrow` stores these.
-use Rattle.integers.specs.Kit.{◌≡◌, refl, sym, ap, ◌∙◌, Bool, false, List, ℕ, ◌<◌, ℤ, pos, length, get_or}
+use Rattle.std.specs.Prelude.{◌≡◌, ◌<◌}
+use Rattle.integers.specs.Kit.{refl, sym, ap, ◌∙◌, Bool, false, List, ℕ, ℤ, pos, length, get_or}
 use native.Mathlib.Nat.{suc-ne-zero}
 use Rattle.integers.specs.Range.{beyond, beyond_at}
 use Rattle.integers.specs.Search.{first, any}

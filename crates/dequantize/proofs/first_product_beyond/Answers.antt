@@ -1,5 +1,6 @@
 -- `first_product_beyond` meets its contract: the loop passes each product that is within the limit.
-use Rattle.integers.specs.Kit.{◌≡◌, sym, ap, ◌∙◌, pos, get_or}
+use Rattle.std.specs.Prelude.{◌≡◌}
+use Rattle.integers.specs.Kit.{sym, ap, ◌∙◌, pos, get_or}
 use native.Mathlib.Omega.{arith}
 use borrow.Author.Rules.{rules}
 use Rattle.integers.specs.Range.{beyond}

@@ -1,5 +1,5 @@
 -- `first_product_beyond` meets its contract: the loop passes each product that is within the limit.
-use Rattle.integers.specs.Kit.{◌-◌}
+use Rattle.std.specs.Prelude.{◌-◌}
 use Rattle.integers.specs.Range.{beyond_at}
 use Rattle.integers.proofs.Search.{NoneBelow}
 use Rattle.limits.specs.Limits.{places, dequantized_limit}

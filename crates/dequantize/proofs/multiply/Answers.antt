@@ -1,5 +1,6 @@
 -- `multiply` meets its contract: the loop fills the products one by one, and asks of each whether it is beyond the limit.
-use Rattle.integers.specs.Kit.{◌≡◌, ap, ap₂, ◌∙◌, ℕ, ◌≤◌, ℤ, pos, get_or}
+use Rattle.std.specs.Prelude.{◌≡◌, ◌≤◌}
+use Rattle.integers.specs.Kit.{ap, ap₂, ◌∙◌, ℕ, ℤ, pos, get_or}
 use native.Mathlib.Omega.{arith}
 use mir.Syntax.{w32, w64}
 use mir.Val.{SFits}

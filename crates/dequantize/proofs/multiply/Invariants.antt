@@ -1,5 +1,6 @@
 -- `multiply` meets its contract: the loop fills the products one by one, and asks of each whether it is beyond the limit.
-use Rattle.integers.specs.Kit.{◌-◌, pos}
+use Rattle.std.specs.Prelude.{◌-◌}
+use Rattle.integers.specs.Kit.{pos}
 use Rattle.integers.proofs.Search.{Asked}
 use Rattle.integers.proofs.Tables.{Filled}
 use Rattle.limits.specs.Limits.{places}

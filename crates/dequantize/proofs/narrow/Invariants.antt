@@ -1,5 +1,6 @@
 -- `narrow` meets its contract: the loop copies the numbers one by one, and each fits an i32.
-use Rattle.integers.specs.Kit.{◌-◌, pos, get_or}
+use Rattle.std.specs.Prelude.{◌-◌}
+use Rattle.integers.specs.Kit.{pos, get_or}
 use Rattle.integers.proofs.Tables.{Filled}
 use Rattle.limits.specs.Limits.{places}
 use Rattle.dequantize.proofs.narrow.Given as goal

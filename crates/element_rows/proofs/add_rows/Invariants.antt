@@ -1,5 +1,6 @@
 -- `add_rows` meets its contract: the loop adds element by element.
-use Rattle.integers.specs.Kit.{◌≡◌, [], ◌-◌}
+use Rattle.std.specs.Prelude.{◌≡◌, ◌-◌}
+use Rattle.integers.specs.Kit.{[]}
 use Rattle.integers.proofs.Tables.{Each}
 use Rattle.ring.specs.Element.{add}
 use Rattle.elements.specs.Buffer.{item}

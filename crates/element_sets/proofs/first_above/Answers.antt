@@ -1,5 +1,6 @@
 -- `first_above` meets its contract: the loop passes each element within the limit.
-use Rattle.integers.specs.Kit.{◌≡◌, sym, ap, ◌∙◌, ◌-◌}
+use Rattle.std.specs.Prelude.{◌≡◌, ◌-◌}
+use Rattle.integers.specs.Kit.{sym, ap, ◌∙◌}
 use native.Mathlib.Omega.{arith}
 use Rattle.integers.proofs.Search.{first-at, first_none}
 use Rattle.ring.specs.Element.{magnitudes}

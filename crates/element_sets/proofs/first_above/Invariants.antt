@@ -1,5 +1,5 @@
 -- `first_above` meets its contract: the loop passes each element within the limit.
-use Rattle.integers.specs.Kit.{◌-◌}
+use Rattle.std.specs.Prelude.{◌-◌}
 use Rattle.integers.proofs.Search.{NoneBelow}
 use Rattle.element_sets.specs.Sets.{above_limit}
 use Rattle.element_sets.proofs.first_above.Given as goal

@@ -1,5 +1,6 @@
 -- `magnitudes` meets its contract: the loop sums the magnitudes of the components passed.
-use Rattle.integers.specs.Kit.{◌≡◌, refl, ap, ◌∙◌, ℕ, ◌-◌, ◌^◌, ◌≤◌, ◌<◌, ℤ, nat_abs, length}
+use Rattle.std.specs.Prelude.{◌≡◌, ◌-◌, ◌^◌, ◌≤◌, ◌<◌}
+use Rattle.integers.specs.Kit.{refl, ap, ◌∙◌, ℕ, ℤ, nat_abs, length}
 use native.Mathlib.Numerals.{add-one}
 use native.Mathlib.Omega.{arith}
 use lib.Signed.{mag, nat_abs-le}

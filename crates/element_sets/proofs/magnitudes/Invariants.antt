@@ -1,5 +1,5 @@
 -- `magnitudes` meets its contract: the loop sums the magnitudes of the components passed.
-use Rattle.integers.specs.Kit.{◌≡◌, ◌-◌, ◌*◌, ◌^◌, ◌≤◌}
+use Rattle.std.specs.Prelude.{◌≡◌, ◌-◌, ◌*◌, ◌^◌, ◌≤◌}
 use Rattle.ring.proofs.Magnitude.{sizes}
 use Rattle.element_sets.proofs.magnitudes.Given as goal
 

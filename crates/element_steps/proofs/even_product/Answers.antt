@@ -1,5 +1,5 @@
 -- `even_product` meets its contract: four products with what `even` makes.
-use Rattle.integers.specs.Kit.{◌*◌}
+use Rattle.std.specs.Prelude.{◌*◌}
 use Rattle.element_steps.proofs.Sums.{room-step, made_product}
 use Rattle.element_steps.proofs.even_product.Goals as goal
 

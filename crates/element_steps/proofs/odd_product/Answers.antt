@@ -1,5 +1,5 @@
 -- `odd_product` meets its contract: four products with what `odd` makes.
-use Rattle.integers.specs.Kit.{◌*◌, ◌+◌}
+use Rattle.std.specs.Prelude.{◌*◌, ◌+◌}
 use Rattle.element_steps.proofs.Sums.{room-step, made_product}
 use Rattle.element_steps.proofs.odd_product.Goals as goal
 

@@ -1,5 +1,6 @@
 -- `parts` meets its contract: the loop takes component k of each element.
-use Rattle.integers.specs.Kit.{ap, ◌∙◌, ◌-◌}
+use Rattle.std.specs.Prelude.{◌-◌}
+use Rattle.integers.specs.Kit.{ap, ◌∙◌}
 use native.Mathlib.Omega.{arith}
 use Rattle.integers.proofs.Tables.{each_more}
 use Rattle.ring.specs.Element.{integer}

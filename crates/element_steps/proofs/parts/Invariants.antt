@@ -1,5 +1,6 @@
 -- `parts` meets its contract: the loop takes component k of each element.
-use Rattle.integers.specs.Kit.{◌≡◌, [], ◌-◌}
+use Rattle.std.specs.Prelude.{◌≡◌, ◌-◌}
+use Rattle.integers.specs.Kit.{[]}
 use Rattle.integers.proofs.Tables.{Each}
 use Rattle.ring.specs.Maps.{part}
 use Rattle.elements.specs.Buffer.{item}

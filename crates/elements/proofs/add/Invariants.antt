@@ -1,5 +1,6 @@
 -- `add` meets its contract: the loop fills the sum's components one by one, and each sum of two fits.
-use Rattle.integers.specs.Kit.{◌-◌, pos, ◌+ℤ◌}
+use Rattle.std.specs.Prelude.{◌-◌, ◌+ℤ◌}
+use Rattle.integers.specs.Kit.{pos}
 use Rattle.integers.proofs.Tables.{Filled}
 use Rattle.ring.specs.Element.{component}
 use Rattle.elements.proofs.add.Given as goal

@@ -1,5 +1,6 @@
 -- `along` meets its contract: one component, with the sign of the cosine.
-use Rattle.integers.specs.Kit.{◌≡◌, ap, ◌∙◌}
+use Rattle.std.specs.Prelude.{◌≡◌}
+use Rattle.integers.specs.Kit.{ap, ◌∙◌}
 use borrow.Author.Rules.{rules}
 use Rattle.integers.proofs.Signed.{in32}
 use Rattle.ring.specs.Element.{component, integer, Eight}

@@ -1,5 +1,6 @@
 -- `conjugate` meets its contract: the components change places, and three of them their sign.
-use Rattle.integers.specs.Kit.{◌≡◌, refl, sym, ℕ}
+use Rattle.std.specs.Prelude.{◌≡◌}
+use Rattle.integers.specs.Kit.{refl, sym, ℕ}
 use borrow.Author.Rules.{rules}
 use Rattle.integers.proofs.Signed.{in32}
 use Rattle.ring.specs.Element.{component, Eight}

@@ -1,5 +1,6 @@
 -- `continued` meets its contract: each way out is one stretch of the index.
-use Rattle.integers.specs.Kit.{◌≡◌, sym, ◌∙◌, ◌-◌, pos, length}
+use Rattle.std.specs.Prelude.{◌≡◌, ◌-◌}
+use Rattle.integers.specs.Kit.{sym, ◌∙◌, pos, length}
 use native.Mathlib.Omega.{arith}
 use lib.ListN.{get_or-eq_default}
 use borrow.Author.Rules.{rules}

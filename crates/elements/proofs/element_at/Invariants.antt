@@ -1,5 +1,6 @@
 -- `element_at` meets its contract: the loop copies the components one by one.
-use Rattle.integers.specs.Kit.{◌+◌, ◌-◌, ◌*◌, pos, get_or}
+use Rattle.std.specs.Prelude.{◌+◌, ◌-◌, ◌*◌}
+use Rattle.integers.specs.Kit.{pos, get_or}
 use Rattle.integers.proofs.Tables.{Filled}
 use Rattle.elements.proofs.element_at.Given as goal
 

@@ -1,5 +1,6 @@
 -- `negate` meets its contract: the loop fills the negative components one by one.
-use Rattle.integers.specs.Kit.{sym, ◌∙◌, ◌-◌}
+use Rattle.std.specs.Prelude.{◌-◌}
+use Rattle.integers.specs.Kit.{sym, ◌∙◌}
 use native.Mathlib.Omega.{arith}
 use borrow.Author.Rules.{rules}
 use Rattle.integers.proofs.Tables.{filled_all}

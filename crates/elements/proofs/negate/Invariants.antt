@@ -1,5 +1,6 @@
 -- `negate` meets its contract: the loop fills the negative components one by one.
-use Rattle.integers.specs.Kit.{◌-◌, pos, neg_ℤ}
+use Rattle.std.specs.Prelude.{◌-◌}
+use Rattle.integers.specs.Kit.{pos, neg_ℤ}
 use Rattle.integers.proofs.Tables.{Filled}
 use Rattle.ring.specs.Element.{component}
 use Rattle.elements.proofs.negate.Given as goal

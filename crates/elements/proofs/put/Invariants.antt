@@ -1,5 +1,5 @@
 -- `put` meets its contract: the loop stores the components one by one.
-use Rattle.integers.specs.Kit.{◌-◌}
+use Rattle.std.specs.Prelude.{◌-◌}
 use Rattle.elements.proofs.Buffers.{Stored}
 use Rattle.elements.proofs.put.Given as goal
 

@@ -1,5 +1,6 @@
 -- `times` meets its contract: the loop fills the product's components one by one, and each sum of two fits.
-use Rattle.integers.specs.Kit.{◌+◌, ◌-◌, pos, ◌+ℤ◌}
+use Rattle.std.specs.Prelude.{◌+◌, ◌-◌, ◌+ℤ◌}
+use Rattle.integers.specs.Kit.{pos}
 use Rattle.integers.proofs.Tables.{Filled}
 use Rattle.elements.specs.Continued.{continued}
 use Rattle.elements.proofs.times.Given as goal

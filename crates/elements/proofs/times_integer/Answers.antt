@@ -1,5 +1,6 @@
 -- `times_integer` meets its contract: the number at the component of its cosine, with its sign.
-use Rattle.integers.specs.Kit.{◌≡◌, ap₂, ◌∙◌}
+use Rattle.std.specs.Prelude.{◌≡◌}
+use Rattle.integers.specs.Kit.{ap₂, ◌∙◌}
 use Rattle.integers.proofs.Signed.{in32}
 use Rattle.ring.specs.Element.{component, only}
 use Rattle.elements.proofs.Angles.{integer-times, signed_held}

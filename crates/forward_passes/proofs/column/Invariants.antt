@@ -1,5 +1,6 @@
 -- `column` meets its contract: the loop takes sample after sample of the column.
-use Rattle.integers.specs.Kit.{◌≡◌, [], ◌+◌, ◌-◌, ◌*◌}
+use Rattle.std.specs.Prelude.{◌≡◌, ◌+◌, ◌-◌, ◌*◌}
+use Rattle.integers.specs.Kit.{[]}
 use Rattle.integers.proofs.Tables.{Each}
 use Rattle.ring.specs.Element.{integer}
 use Rattle.blocks.specs.Blocks.{sample}

@@ -1,5 +1,5 @@
 -- `any_outside` meets its contract: the loop asks one number more each time.
-use Rattle.integers.specs.Kit.{◌-◌}
+use Rattle.std.specs.Prelude.{◌-◌}
 use Rattle.integers.specs.Range.{outside_at}
 use Rattle.integers.proofs.Search.{Asked}
 use Rattle.integers.proofs.any_outside.Given as goal

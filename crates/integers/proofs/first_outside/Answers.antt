@@ -1,5 +1,6 @@
 -- A number outside is the first, since the loop passed all before it; and where it passed all, there is none.
-use Rattle.integers.specs.Kit.{◌≡◌, sym, ap, ◌∙◌, List, ℕ, ℤ, pos, get_or}
+use Rattle.std.specs.Prelude.{◌≡◌}
+use Rattle.integers.specs.Kit.{sym, ap, ◌∙◌, List, ℕ, ℤ, pos, get_or}
 use native.Mathlib.Omega.{arith}
 use borrow.Author.Rules.{rules}
 use mir.Syntax.{w32}

@@ -1,5 +1,5 @@
 -- `first_outside` meets its contract: the loop passes each number that is inside.
-use Rattle.integers.specs.Kit.{◌-◌}
+use Rattle.std.specs.Prelude.{◌-◌}
 use Rattle.integers.specs.Range.{outside_at}
 use Rattle.integers.proofs.Search.{NoneBelow}
 use Rattle.integers.proofs.first_outside.Given as goal

@@ -1,5 +1,6 @@
 -- `orient` meets its contract: the loop stores the elements one by one.
-use Rattle.integers.specs.Kit.{◌≡◌, sym, ap, ap₂, ◌∙◌, List, ℕ, ℤ}
+use Rattle.std.specs.Prelude.{◌≡◌}
+use Rattle.integers.specs.Kit.{sym, ap, ap₂, ◌∙◌, List, ℕ, ℤ}
 use native.Mathlib.Omega.{arith}
 use Rattle.ring.specs.Element.{scale}
 use Rattle.elements.specs.Buffer.{element_at}

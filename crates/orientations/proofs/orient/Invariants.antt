@@ -1,5 +1,5 @@
 -- `orient` meets its contract: the loop stores the elements one by one.
-use Rattle.integers.specs.Kit.{◌-◌}
+use Rattle.std.specs.Prelude.{◌-◌}
 use Rattle.limits.specs.Limits.{places}
 use Rattle.elements.proofs.Buffers.{ElementsStored}
 use Rattle.orientations.specs.Orientation.{reoriented_element}

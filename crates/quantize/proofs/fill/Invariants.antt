@@ -1,5 +1,6 @@
 -- `fill` meets its contract: the loop fills the values one by one, and each fits an i32.
-use Rattle.integers.specs.Kit.{◌-◌, pos}
+use Rattle.std.specs.Prelude.{◌-◌}
+use Rattle.integers.specs.Kit.{pos}
 use Rattle.integers.proofs.Tables.{Filled}
 use Rattle.limits.specs.Limits.{places}
 use Rattle.quantize.specs.Quantize.{quantized_at}

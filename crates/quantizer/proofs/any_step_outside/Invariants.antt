@@ -1,5 +1,5 @@
 -- `any_step_outside` meets its contract: the loop asks one step more each time.
-use Rattle.integers.specs.Kit.{◌-◌}
+use Rattle.std.specs.Prelude.{◌-◌}
 use Rattle.integers.proofs.Search.{Asked}
 use Rattle.limits.specs.Limits.{places}
 use Rattle.quantizer.specs.Quantizer.{step_outside_at}

@@ -1,5 +1,6 @@
 -- `first_step_outside` meets its contract: where there is one, the loop passes each step that is in range.
-use Rattle.integers.specs.Kit.{◌≡◌, sym, ◌∙◌}
+use Rattle.std.specs.Prelude.{◌≡◌}
+use Rattle.integers.specs.Kit.{sym, ◌∙◌}
 use native.Mathlib.Omega.{arith}
 use Rattle.integers.proofs.Search.{first-at, first_none, any-first}
 use Rattle.limits.specs.Limits.{places}

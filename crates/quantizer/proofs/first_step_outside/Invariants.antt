@@ -1,5 +1,5 @@
 -- `first_step_outside` meets its contract: where there is one, the loop passes each step that is in range.
-use Rattle.integers.specs.Kit.{◌-◌}
+use Rattle.std.specs.Prelude.{◌-◌}
 use Rattle.integers.proofs.Search.{NoneBelow}
 use Rattle.limits.specs.Limits.{places}
 use Rattle.quantizer.specs.Quantizer.{step_outside_at}

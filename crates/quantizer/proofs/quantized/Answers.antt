@@ -1,5 +1,6 @@
 -- `quantized` meets its contract: the quotient of the magnitude fits, and so does its negative.
-use Rattle.integers.specs.Kit.{◌≡◌, ap, ◌∙◌, ℕ, ◌≤◌, ◌<◌, ◌^◌, lit<, ℤ, pos, ◌-ℤ◌, neg_ℤ, nat_abs}
+use Rattle.std.specs.Prelude.{◌≡◌, ◌≤◌, ◌<◌, ◌^◌, ◌-ℤ◌}
+use Rattle.integers.specs.Kit.{ap, ◌∙◌, ℕ, lit<, ℤ, pos, neg_ℤ, nat_abs}
 use native.Mathlib.Nat.{lt_of_le_of_lt}
 use lib.IntN.{+ℤ_idl}
 use mir.Syntax.{w32}

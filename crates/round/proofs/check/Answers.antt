@@ -1,5 +1,6 @@
 -- `check` meets its contract: each way out has its reason.
-use Rattle.integers.specs.Kit.{◌≡◌, sym, ◌∙◌, Bool, true, T}
+use Rattle.std.specs.Prelude.{◌≡◌}
+use Rattle.integers.specs.Kit.{sym, ◌∙◌, Bool, true, T}
 use Rattle.answers.specs.Answer.{fails, holds, passes, none_holds}
 use Rattle.answers.proofs.Causes.{found, not_found, only_reason, right_length, wrong_length}
 use Rattle.round.proofs.check.Goals as goal

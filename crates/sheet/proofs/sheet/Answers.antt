@@ -1,6 +1,7 @@
 -- `sheet` meets its contract: the check decides, and past it the sheet is converted.
 use borrow.Author.Rules.{rules}
-use Rattle.integers.specs.Kit.{refl, ◌≡◌, ap, ◌∙◌, List, ℕ, ℤ}
+use Rattle.std.specs.Prelude.{◌≡◌}
+use Rattle.integers.specs.Kit.{refl, ap, ◌∙◌, List, ℕ, ℤ}
 use Rattle.answers.proofs.Jobs.{refused, is_accepted, done}
 use Rattle.sheet_checks.specs.Check.{blocks}
 use Rattle.sheet_blocks.specs.declared.Totals.{Totals}

@@ -1,5 +1,5 @@
 -- `all_blocks` meets its contract: the loop does one block after the other.
-use Rattle.integers.specs.Kit.{◌-◌}
+use Rattle.std.specs.Prelude.{◌-◌}
 use native.Mathlib.Omega.{arith}
 use Rattle.sheet_blocks.proofs.Loop.{reached_none, reached_more}
 use Rattle.sheet_blocks.proofs.all_blocks.Goals as goal

@@ -1,5 +1,5 @@
 -- `all_blocks` meets its contract: the loop does one block after the other.
-use Rattle.integers.specs.Kit.{◌-◌}
+use Rattle.std.specs.Prelude.{◌-◌}
 use Rattle.sheet_checks.specs.Check.{blocks}
 use Rattle.sheet_blocks.specs.Blocks.{element_scratch}
 use Rattle.sheet_blocks.proofs.Loop.{Reached}

@@ -1,5 +1,6 @@
 -- `block` meets its contract: the loop reads the values of 64 words.
-use Rattle.integers.specs.Kit.{◌+◌, ◌*◌, ◌-◌, pos}
+use Rattle.std.specs.Prelude.{◌+◌, ◌*◌, ◌-◌}
+use Rattle.integers.specs.Kit.{pos}
 use Rattle.integers.proofs.Tables.{Filled}
 use Rattle.limits.specs.Limits.{places}
 use Rattle.words.specs.Word.{payload, value}

@@ -1,6 +1,7 @@
 -- `convert` meets its contract: the head, the blocks and the end word are written one after the other.
 use borrow.Author.Rules.{rules}
-use Rattle.integers.specs.Kit.{ap, ◌∙◌, ◌-◌, length}
+use Rattle.std.specs.Prelude.{◌-◌}
+use Rattle.integers.specs.Kit.{ap, ◌∙◌, length}
 use native.Mathlib.Omega.{arith}
 use Rattle.words.specs.Word.{coefficient_head_kind, word}
 use Rattle.sheet_checks.specs.Check.{blocks}

@@ -1,5 +1,6 @@
 -- `next_block` meets its contract: the words of the block are written into the output where the blocks before it end, and both sums take it in.
-use Rattle.integers.specs.Kit.{◌≡◌, ap, ◌∙◌, List, ℕ, ◌+◌, ◌-◌, ◌*◌, ◌<◌, ℤ, ◌+ℤ◌, length, take, drop}
+use Rattle.std.specs.Prelude.{◌≡◌, ◌+◌, ◌-◌, ◌*◌, ◌<◌, ◌+ℤ◌}
+use Rattle.integers.specs.Kit.{ap, ◌∙◌, List, ℕ, ℤ, length, take, drop}
 use native.Mathlib.Omega.{arith}
 use borrow.Author.Rules.{rules}
 use Rattle.integers.specs.Table.{over, table}

@@ -1,5 +1,6 @@
 -- `store` meets its contract: the loop writes the words of 64 coefficients over the start of its part of the output.
-use Rattle.integers.specs.Kit.{ap, ◌∙◌, ◌-◌, pos, get_or}
+use Rattle.std.specs.Prelude.{◌-◌}
+use Rattle.integers.specs.Kit.{ap, ◌∙◌, pos, get_or}
 use native.Mathlib.Omega.{arith}
 use borrow.Author.Rules.{rules}
 use Rattle.integers.proofs.Signed.{read_i32}

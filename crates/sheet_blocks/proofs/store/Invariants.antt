@@ -1,5 +1,5 @@
 -- `store` meets its contract: the loop writes the words of 64 coefficients over the start of its part of the output.
-use Rattle.integers.specs.Kit.{◌-◌}
+use Rattle.std.specs.Prelude.{◌-◌}
 use Rattle.integers.proofs.Overwriting.{Begun}
 use Rattle.limits.specs.Limits.{places}
 use Rattle.sheet_blocks.specs.Blocks.{coefficient_word}

@@ -1,5 +1,6 @@
 -- `sum` meets its contract: the loop adds one sample after the other.
-use Rattle.integers.specs.Kit.{refl, ◌-◌}
+use Rattle.std.specs.Prelude.{◌-◌}
+use Rattle.integers.specs.Kit.{refl}
 use native.Mathlib.Omega.{arith}
 use Rattle.sheet_blocks.proofs.Sums.{adding_none, plus_fits, adding_more}
 use Rattle.sheet_blocks.proofs.sum.Goals as goal

@@ -1,5 +1,5 @@
 -- `sum` meets its contract: the loop adds one sample after the other.
-use Rattle.integers.specs.Kit.{◌-◌}
+use Rattle.std.specs.Prelude.{◌-◌}
 use Rattle.limits.specs.Limits.{places}
 use Rattle.sheet_blocks.proofs.Sums.{Adding}
 use Rattle.sheet_blocks.proofs.sum.Given as goal

@@ -1,5 +1,5 @@
 -- `load` meets its contract: the loop writes the words one by one.
-use Rattle.integers.specs.Kit.{◌-◌}
+use Rattle.std.specs.Prelude.{◌-◌}
 use native.Mathlib.Omega.{arith}
 use Rattle.integers.proofs.Overwriting.{begun_none, begun_more, begun_all}
 use Rattle.sheet_bytes.specs.Program.{word_from, words_of}

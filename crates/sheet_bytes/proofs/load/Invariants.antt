@@ -1,5 +1,5 @@
 -- `load` meets its contract: the loop writes the words one by one.
-use Rattle.integers.specs.Kit.{◌-◌, ◌*◌}
+use Rattle.std.specs.Prelude.{◌-◌, ◌*◌}
 use Rattle.integers.proofs.Overwriting.{Begun}
 use Rattle.sheet_bytes.specs.Program.{word_from}
 use Rattle.sheet_bytes.proofs.load.Given as goal

@@ -1,5 +1,6 @@
 -- `any_faulty` meets its contract: the loop asks one word of the body more each time, and then the end word is asked.
-use Rattle.integers.specs.Kit.{◌≡◌, sym, ◌∙◌, ◌-◌, length}
+use Rattle.std.specs.Prelude.{◌≡◌, ◌-◌}
+use Rattle.integers.specs.Kit.{sym, ◌∙◌, length}
 use native.Mathlib.Omega.{arith}
 use Rattle.integers.proofs.Search.{asked_more, asked_all}
 use Rattle.sheet_checks.specs.Check.{faulty}

@@ -1,5 +1,6 @@
 -- `any_faulty` meets its contract: the loop asks one word of the body more each time, and then the end word is asked.
-use Rattle.integers.specs.Kit.{◌-◌, ◌≤◌, ◌<◌, length}
+use Rattle.std.specs.Prelude.{◌-◌, ◌≤◌, ◌<◌}
+use Rattle.integers.specs.Kit.{length}
 use Rattle.integers.proofs.Search.{Asked}
 use Rattle.sheet_checks.specs.Check.{faulty}
 use Rattle.sheet_checks.proofs.any_faulty.Given as goal

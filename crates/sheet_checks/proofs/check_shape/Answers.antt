@@ -1,5 +1,6 @@
 -- `check_shape` meets its contract: each way out is a law of causes.
-use Rattle.integers.specs.Kit.{◌≡◌, sym, ◌∙◌, List, ℕ, T, length}
+use Rattle.std.specs.Prelude.{◌≡◌}
+use Rattle.integers.specs.Kit.{sym, ◌∙◌, List, ℕ, T, length}
 use borrow.Author.Tests.{eq-eqb, ne_eqb}
 use Rattle.answers.specs.Answer.{Returned, Reason, accept_with, answered, holds, fails, passes, none_holds}
 use Rattle.answers.proofs.Causes.{only_reason}

@@ -1,5 +1,6 @@
 -- `check_words` meets its contract: where no word is faulty there is none to find.
-use Rattle.integers.specs.Kit.{sym, ◌∙◌, [], ◌∷◌, length}
+use Rattle.std.specs.Prelude.{◌∷◌}
+use Rattle.integers.specs.Kit.{sym, ◌∙◌, [], length}
 use Rattle.integers.proofs.Search.{any_none}
 use Rattle.answers.specs.Answer.{passes, none_holds}
 use Rattle.answers.proofs.Causes.{only_reason}

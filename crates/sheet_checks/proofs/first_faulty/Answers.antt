@@ -1,5 +1,6 @@
 -- `first_faulty` meets its contract: the loop passes every word of the body that has no fault, and then the end word has one.
-use Rattle.integers.specs.Kit.{◌≡◌, sym, ◌∙◌, ◌-◌, length}
+use Rattle.std.specs.Prelude.{◌≡◌, ◌-◌}
+use Rattle.integers.specs.Kit.{sym, ◌∙◌, length}
 use native.Mathlib.Omega.{arith}
 use Rattle.integers.proofs.Search.{none_below_more}
 use Rattle.sheet_checks.proofs.Faults.{at_body, at-end, head_passed, last-faulty, ends}

@@ -1,5 +1,6 @@
 -- `first_faulty` meets its contract: the loop passes every word of the body that has no fault, and then the end word has one.
-use Rattle.integers.specs.Kit.{◌-◌, ◌≤◌, ◌<◌, length}
+use Rattle.std.specs.Prelude.{◌-◌, ◌≤◌, ◌<◌}
+use Rattle.integers.specs.Kit.{length}
 use Rattle.integers.proofs.Search.{NoneBelow}
 use Rattle.sheet_checks.specs.Check.{faulty}
 use Rattle.sheet_checks.proofs.first_faulty.Given as goal

@@ -1,5 +1,6 @@
 -- `range_of_block` meets its contract: the loop keeps the lowest and the highest value so far.
-use Rattle.integers.specs.Kit.{ap, ◌∙◌, ◌-◌}
+use Rattle.std.specs.Prelude.{◌-◌}
+use Rattle.integers.specs.Kit.{ap, ◌∙◌}
 use native.Mathlib.Omega.{arith}
 use Rattle.floats.specs.Fraction.{coefficient_float}
 use Rattle.sheet_range.proofs.Extremes.{by_lower, by_higher, value-first, value_next, value_small, block-extreme}

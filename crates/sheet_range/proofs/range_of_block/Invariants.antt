@@ -1,5 +1,5 @@
 -- `range_of_block` meets its contract: the loop keeps the lowest and the highest value so far.
-use Rattle.integers.specs.Kit.{◌+◌, ◌-◌}
+use Rattle.std.specs.Prelude.{◌+◌, ◌-◌}
 use lib.Signed.{lt_z}
 use Rattle.limits.specs.Limits.{places}
 use Rattle.sheet_range.proofs.Extremes.{BlockExtreme}

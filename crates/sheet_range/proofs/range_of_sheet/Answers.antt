@@ -1,5 +1,6 @@
 -- `range_of_sheet` meets its contract: the loop keeps the range of the blocks so far.
-use Rattle.integers.specs.Kit.{ap₂, ◌∙◌, ◌-◌, lit≤}
+use Rattle.std.specs.Prelude.{◌-◌}
+use Rattle.integers.specs.Kit.{ap₂, ◌∙◌, lit≤}
 use lib.Ieee.{lt}
 use Rattle.floats.proofs.Comparison.{in_order}
 use Rattle.sheet_range.proofs.Extremes.{by_lower, by_higher, both_digits, float_next, sheet-extreme}

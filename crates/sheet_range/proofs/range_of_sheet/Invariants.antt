@@ -1,5 +1,6 @@
 -- `range_of_sheet` meets its contract: the loop keeps the range of the blocks so far.
-use Rattle.integers.specs.Kit.{◌-◌, length}
+use Rattle.std.specs.Prelude.{◌-◌}
+use Rattle.integers.specs.Kit.{length}
 use lib.Signed.{lt_z}
 use Rattle.sheet_range.proofs.Extremes.{SheetExtreme}
 use Rattle.sheet_range.proofs.range_of_sheet.Given as goal

@@ -1,5 +1,6 @@
 -- `sheet_range` meets its contract: the check decides, and past it the range is that of the sheet.
-use Rattle.integers.specs.Kit.{refl, ◌≡◌, sym, ◌∙◌, List, ℕ}
+use Rattle.std.specs.Prelude.{◌≡◌}
+use Rattle.integers.specs.Kit.{refl, sym, ◌∙◌, List, ℕ}
 use lib.Ieee.{of_bits}
 use Rattle.answers.proofs.Jobs.{refused, accepted_leaves}
 use Rattle.sheet_range.specs.declared.Range.{Range}

@@ -1,5 +1,6 @@
 -- `largest_magnitude` meets its contract: the loop keeps the largest so far.
-use Rattle.integers.specs.Kit.{◌≡◌, refl, ap, ◌∙◌, Bool, true, false, cond, List, ℕ, ◌≤◌, ltb, ℤ, pos, nat_abs}
+use Rattle.std.specs.Prelude.{◌≡◌, ◌≤◌}
+use Rattle.integers.specs.Kit.{refl, ap, ◌∙◌, Bool, true, false, cond, List, ℕ, ltb, ℤ, pos, nat_abs}
 use native.Mathlib.Nat.{lt_of_lt_of_le}
 use native.Mathlib.Omega.{arith}
 use lib.Signed.{lt_z}

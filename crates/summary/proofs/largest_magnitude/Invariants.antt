@@ -1,5 +1,6 @@
 -- `largest_magnitude` meets its contract: the loop keeps the largest so far.
-use Rattle.integers.specs.Kit.{◌≡◌, ◌-◌, pos, nat_abs}
+use Rattle.std.specs.Prelude.{◌≡◌, ◌-◌}
+use Rattle.integers.specs.Kit.{pos, nat_abs}
 use Rattle.summary.proofs.Magnitudes.{Largest}
 use Rattle.summary.proofs.largest_magnitude.Given as goal
 

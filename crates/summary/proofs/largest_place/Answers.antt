@@ -1,5 +1,6 @@
 -- `largest_place` meets its contract: the loop passes the places that have another magnitude.
-use Rattle.integers.specs.Kit.{◌≡◌, sym, ap, ◌∙◌, ℤ, pos, nat_abs}
+use Rattle.std.specs.Prelude.{◌≡◌}
+use Rattle.integers.specs.Kit.{sym, ap, ◌∙◌, ℤ, pos, nat_abs}
 use native.Mathlib.Omega.{arith}
 use mir.Syntax.{w32}
 use mir.Val.{of_z}

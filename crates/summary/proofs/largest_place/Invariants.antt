@@ -1,5 +1,5 @@
 -- `largest_place` meets its contract: the loop passes the places that have another magnitude.
-use Rattle.integers.specs.Kit.{◌-◌}
+use Rattle.std.specs.Prelude.{◌-◌}
 use Rattle.summary.proofs.Magnitudes.{Before}
 use Rattle.summary.proofs.largest_place.Given as goal
 

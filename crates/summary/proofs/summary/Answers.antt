@@ -1,5 +1,6 @@
 -- `summary` meets its contract: the check decides, and past it `grey_of` makes the floats.
-use Rattle.integers.specs.Kit.{◌≡◌, refl, List, ℤ}
+use Rattle.std.specs.Prelude.{◌≡◌}
+use Rattle.integers.specs.Kit.{refl, List, ℤ}
 use lib.Ieee.{of_bits}
 use Rattle.limits.specs.Limits.{places}
 use Rattle.answers.specs.Answer.{Returned, accept, answered}

@@ -1,5 +1,6 @@
 -- `copy` meets its contract: the loop writes the text byte by byte.
-use Rattle.integers.specs.Kit.{◌-◌, length, get_or}
+use Rattle.std.specs.Prelude.{◌-◌}
+use Rattle.integers.specs.Kit.{length, get_or}
 use Rattle.integers.proofs.Overwriting.{Begun}
 use Rattle.text.proofs.copy.Given as goal
 

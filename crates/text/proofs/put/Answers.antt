@@ -1,5 +1,6 @@
 -- `put` meets its contract: the rest of the output is lent to `copy`.
-use Rattle.integers.specs.Kit.{◌-◌, length}
+use Rattle.std.specs.Prelude.{◌-◌}
+use Rattle.integers.specs.Kit.{length}
 use native.Mathlib.Omega.{arith}
 use Rattle.text.proofs.Lines.{lent}
 use Rattle.text.proofs.put.Goals as goal

@@ -1,5 +1,6 @@
 -- `put_signed` meets its contract: below zero a minus sign stands before the digits of the magnitude.
-use Rattle.integers.specs.Kit.{ap, ◌∙◌, [], ◌∷◌, ◌++◌, nat_abs}
+use Rattle.std.specs.Prelude.{◌∷◌, ◌++◌}
+use Rattle.integers.specs.Kit.{ap, ◌∙◌, [], nat_abs}
 use Rattle.integers.proofs.Signed.{read_i64}
 use Rattle.text.specs.Decimal.{decimal, minus}
 use Rattle.text.proofs.Decimals.{below_zero, from_zero}

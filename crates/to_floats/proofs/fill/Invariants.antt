@@ -1,5 +1,5 @@
 -- `fill` meets its contract: the loop fills the floats one by one.
-use Rattle.integers.specs.Kit.{◌-◌}
+use Rattle.std.specs.Prelude.{◌-◌}
 use Rattle.integers.proofs.Tables.{Filled}
 use Rattle.limits.specs.Limits.{places}
 use Rattle.floats.specs.Fraction.{coefficient_float, plus_zero}

@@ -1,5 +1,6 @@
 -- `byte_of` meets its contract: a shift by 8 bits for each byte that follows is a division by that power of 256.
-use Rattle.integers.specs.Kit.{◌≡◌, refl, ℕ, zero, suc, ◌-◌, ◌*◌, ◌/◌, ◌%◌, ◌^◌, ◌<◌}
+use Rattle.std.specs.Prelude.{◌≡◌, ◌-◌, ◌*◌, ◌/◌, ◌%◌, ◌^◌, ◌<◌}
+use Rattle.integers.specs.Kit.{refl, ℕ, zero, suc}
 use native.Mathlib.Omega.{arith}
 use Rattle.transform_bytes.specs.Output.{byte_of}
 use Rattle.transform_bytes.proofs.byte_of.Goals as goal

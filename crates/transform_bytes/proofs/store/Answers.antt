@@ -1,5 +1,5 @@
 -- `store` meets its contract: the loop writes the bytes one by one.
-use Rattle.integers.specs.Kit.{◌-◌}
+use Rattle.std.specs.Prelude.{◌-◌}
 use native.Mathlib.Omega.{arith}
 use Rattle.integers.proofs.Overwriting.{begun_none, begun_more, begun_all}
 use Rattle.transform_bytes.specs.Output.{byte_of, bytes_of}

@@ -1,5 +1,6 @@
 -- `store` meets its contract: the loop writes the bytes one by one.
-use Rattle.integers.specs.Kit.{◌-◌, ◌/◌, ◌%◌, get_or}
+use Rattle.std.specs.Prelude.{◌-◌, ◌/◌, ◌%◌}
+use Rattle.integers.specs.Kit.{get_or}
 use Rattle.integers.proofs.Overwriting.{Begun}
 use Rattle.transform_bytes.specs.Output.{byte_of}
 use Rattle.transform_bytes.proofs.store.Given as goal

@@ -1,5 +1,6 @@
 -- `value` meets its contract: the rank and the count of negative values fit an i32 as they stand, and so does their difference.
-use Rattle.integers.specs.Kit.{◌≡◌, ap₂, ◌∙◌, ℕ, lit<, pos, ◌-ℤ◌}
+use Rattle.std.specs.Prelude.{◌≡◌, ◌-ℤ◌}
+use Rattle.integers.specs.Kit.{ap₂, ◌∙◌, ℕ, lit<, pos}
 use native.Mathlib.Nat.{lt_of_le_of_lt}
 use native.Mathlib.Omega.{arith}
 use mir.Syntax.{w32}

@@ -1,5 +1,6 @@
 -- `with_value` meets its contract: a value that is not negative is its own payload, and another is brought up by 2^28.
-use Rattle.integers.specs.Kit.{◌≡◌, sym, ap, ◌∙◌, true, ℕ, ◌-◌, ◌≤◌, ◌<◌, T, lit<, lit≤, ℤ, pos, ◌+ℤ◌, nat_abs}
+use Rattle.std.specs.Prelude.{◌≡◌, ◌-◌, ◌≤◌, ◌<◌, ◌+ℤ◌}
+use Rattle.integers.specs.Kit.{sym, ap, ◌∙◌, true, ℕ, T, lit<, lit≤, ℤ, pos, nat_abs}
 use native.Mathlib.Nat.{lt_trans}
 use native.Mathlib.Omega.{arith}
 use lib.Signed.{lt_z, non_neg}
