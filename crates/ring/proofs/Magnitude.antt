@@ -80,7 +80,7 @@ module _ (n C : ℕ) where
       spread i = ap (L i) (sym (expand e)) ∙ linear_combine (L i) (l i) (only (pos 1)) a
 
 -- a linear form: where no component of a has a magnitude above B, and the form's values at 1 and at c_1 to c_7 have magnitudes that sum to C at
--- most, its value at a has a magnitude of at most B-as-C
+-- most, its value at a has a magnitude of at most B·C
 module _ (φ : List ℤ → ℤ) (l : LinearForm φ) (B C : ℕ) where
   form_combine : (f : ℕ → List ℤ) (a : List ℤ) → ((k : ℕ) → nat_abs (component a k) ≤ B)
       → nat_abs (φ (combine f a)) ≤ B * sum 0 ◌+◌ (length a) (λ k. nat_abs (φ (f k)))

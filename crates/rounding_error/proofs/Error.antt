@@ -57,7 +57,7 @@ module _ (b L : ℕ) (m u : List ℤ) (table : TableAt b m) (small : magnitudes 
 
 -- N against the number y
 
--- what rounding adds, over 2·B: as y is nearest to z/(B-as-S), 2z lies within B-as-S of 2·B·S·y
+-- what rounding adds, over 2·B: as y is nearest to z/(B·S), 2z lies within B·S of 2·B·S·y
 within : (z y : ℤ) (S B E : ℕ) → Nearest z (B * S) y
     → ((pos 2 *ℤ z +ℤ pos (2 * S * E)) ≤ℤ ((pos S *ℤ y) *ℤ pos (2 * B) +ℤ pos (S * (1 * B + E * 2) * 1)))
     × (((pos S *ℤ y) *ℤ pos (2 * B) -ℤ pos (1 * (S * (1 * B + E * 2)))) ≤ℤ (pos 2 *ℤ z -ℤ pos (2 * S * E)))
