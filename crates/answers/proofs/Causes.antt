@@ -15,7 +15,7 @@ use Rattle.answers.specs.Answer.{Passes, Names, fails, faulty_at, Reason, holds,
 
 module _ (size : ℕ) (faulty : ℕ → Bool) {i : ℕ} (f : i ≡ first size faulty) where
   pub found : {refusal : ℕ → Returned} → i < size → Names (search size faulty refusal) (refusal i)
-  found h = faulty_at i h (λ j l. before_first size faulty j (rw f at l)) (rw (← f) at (at_first size faulty (rw f at h)))
+  found h = faulty_at i h (λ j l. before_first size faulty j (omega (arith, f, l))) (rw (← f) at (at_first size faulty (rw f at h)))
 
   pub not_found : size ≤ i → (j : ℕ) → j < size → faulty j ≡ false
   not_found h j l = before_first size faulty j (rw (← f) (lt_of_lt_of_le l h))

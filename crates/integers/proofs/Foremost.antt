@@ -9,7 +9,7 @@ use lib.Signed.{lt_z, lt_z_yes, lt_z_no, <ℤ-≤ℤ_trans, clash_ℤ}
 use mir.Facts.{and_yes}
 use borrow.Author.Tests.{le-ltb, le-leb, ltb-true, leb-true, not-false}
 use Rattle.integers.specs.Search.{first, any, foremost}
-use Rattle.integers.proofs.Search.{first-at, first_below, before_first, at_first, any_at, none_any}
+use Rattle.integers.proofs.Search.{first-at, first_below, before_first, at_first, any_at, none_any, preceded_by}
 use Rattle.integers.proofs.Tests.{holds}
 
 -- an order in which two can be level
@@ -93,18 +93,15 @@ module _ {before : ℕ → ℕ → Bool} (O : Order before) where
 -- the foremost, where there is a best
 
 module _ {a : ℕ} {before : ℕ → ℕ → Bool} (O : Order before) {n j : ℕ} (B : Best a before n j) where
-  abbrev preceded_by : ℕ → ℕ → Bool
-  preceded_by p q = leb a q && before q p
-
   abbrev stands : ℕ → Bool
-  stands p = leb a p && not (any n (preceded_by p))
+  stands p = leb a p && not (any n (preceded_by a before p))
 
   none_precedes : {p : ℕ} → Best a before n p → (q : ℕ) → q < n → (t : Bool) → leb a q ≡ t → (t && before q p) ≡ false
   none_precedes P q l true h = P.none_before q (leb-true a q h) l
   none_precedes P q l false h = refl
 
   best_stands : {p : ℕ} → Best a before n p → stands p ≡ true
-  best_stands {p} P = rw (le-leb a p P.from, none_any n (preceded_by p) (λ q l. none_precedes P q l (leb a q) refl))
+  best_stands {p} P = rw (le-leb a p P.from, none_any n (preceded_by a before p) (λ q l. none_precedes P q l (leb a q) refl))
 
   foremost-below : foremost a n before < n
   unfolding foremost
@@ -114,11 +111,11 @@ module _ {a : ℕ} {before : ℕ → ℕ → Bool} (O : Order before) {n j : ℕ
   unfolding foremost
   foremost_best =
       let p = first n stands in
-      let (h, none) = and_yes (leb a p) (not (any n (preceded_by p))) (rw (at_first n stands foremost-below) tt) in
+      let (h, none) = and_yes (leb a p) (not (any n (preceded_by a before p))) (rw (at_first n stands foremost-below) tt) in
       record { from = leb→le a p h; below = foremost-below; none_before = λ q k l. clear p none q k l (before q p) refl }
     where
-      clear : (p : ℕ) → T (not (any n (preceded_by p))) → (q : ℕ) → a ≤ q → q < n → (t : Bool) → before q p ≡ t → t ≡ false
-      clear p none q k l true e = absurd (subst (λ t. T (not t)) (any_at n (preceded_by p) q l (rw (le-leb a q k, e))) none)
+      clear : (p : ℕ) → T (not (any n (preceded_by a before p))) → (q : ℕ) → a ≤ q → q < n → (t : Bool) → before q p ≡ t → t ≡ false
+      clear p none q k l true e = absurd (subst (λ t. T (not t)) (any_at n (preceded_by a before p) q l (rw (le-leb a q k, e))) none)
       clear p none q k l false e = refl
 
   -- it comes before each of those that stand before it
@@ -126,10 +123,10 @@ module _ {a : ℕ} {before : ℕ → ℕ → Bool} (O : Order before) {n j : ℕ
   unfolding foremost
   foremost-first q h l =
       let p = first n stands in
-      let some : any n (preceded_by q) ≡ true = not-false (any n (preceded_by q)) (sym (rw (le-leb a q h)) ∙ before_first n stands q l) in
-      let r = first n (preceded_by q) in
+      let some : any n (preceded_by a before q) ≡ true = not-false (any n (preceded_by a before q)) (sym (rw (le-leb a q h)) ∙ before_first n stands q l) in
+      let r = first n (preceded_by a before q) in
       let k = ltb-true r n some in
-      let (m, e) = and_yes (leb a r) (before r q) (rw (at_first n (preceded_by q) k) tt) in
+      let (m, e) = and_yes (leb a r) (before r q) (rw (at_first n (preceded_by a before q) k) tt) in
       O.weak p q r (holds (before r q) e) (foremost_best.none_before r (leb→le a r m) k)
 
   -- a best that comes before each of those that stand before it is the foremost
@@ -137,8 +134,8 @@ module _ {a : ℕ} {before : ℕ → ℕ → Bool} (O : Order before) {n j : ℕ
   unfolding foremost
   is_foremost least = first-at n stands j B.below (record { room = le_of_lt B.below; fails = λ q l. go q l (leb a q) refl }) (best_stands B)
     where
-      go : (q : ℕ) → q < j → (t : Bool) → leb a q ≡ t → (t && not (any n (preceded_by q))) ≡ false
-      go q l true h = rw (any_at n (preceded_by q) j B.below (rw (le-leb a j B.from, least q (leb-true a q h) l)))
+      go : (q : ℕ) → q < j → (t : Bool) → leb a q ≡ t → (t && not (any n (preceded_by a before q))) ≡ false
+      go q l true h = rw (any_at n (preceded_by a before q) j B.below (rw (le-leb a j B.from, least q (leb-true a q h) l)))
       go q l false h = refl
 
 -- v is the value of the best from a on and below i: what a loop knows at i that keeps the value, and not the index

@@ -1,7 +1,7 @@
 -- The lowest index at which a test passes, as a loop that looks from the front finds it, and whether there is one, as a loop without an early
 -- exit does.
-use Rattle.std.specs.Prelude.{◌≡◌, ◌||◌, ◌+◌, ◌≤◌, ◌<◌}
-use Rattle.integers.specs.Kit.{refl, sym, ap, ap₂, subst, ◌∙◌, Bool, true, false, cond, ℕ, zero, suc, T, ltb}
+use Rattle.std.specs.Prelude.{◌≡◌, ◌&&◌, ◌||◌, ◌+◌, ◌≤◌, ◌<◌}
+use Rattle.integers.specs.Kit.{refl, sym, ap, ap₂, subst, ◌∙◌, Bool, true, false, cond, ℕ, zero, suc, T, ltb, leb}
 use Prim.Native.Nat.{zero-le}
 use native.Mathlib.Nat.{le_refl, not-suc-le-zero, lt_of_lt_of_le}
 use native.Mathlib.Decide.{ℕ_discrete, dec_lt}
@@ -130,3 +130,7 @@ any_none n f e k h = before_first n f k (lt_of_lt_of_le h (ltb-false (first n f)
 -- and then the search comes to the end
 pub any-first : (n : ℕ) (f : ℕ → Bool) {r : Bool} → r ≡ any n f → r ≡ false → n ≡ first n f
 any-first n f a e = sym (first_none n f (record { room = le_refl n; fails = any_none n f (sym a ∙ e) }))
+
+-- q is one of the indices from a on, and comes before p: what the search for the foremost asks of each q
+abbrev pub preceded_by : ℕ → (ℕ → ℕ → Bool) → ℕ → ℕ → Bool
+preceded_by a before p q = leb a q && before q p

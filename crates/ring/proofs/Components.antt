@@ -1,7 +1,7 @@
 -- Elements by their components: which operations keep all eight, what a component of a result is, and that an element is the
 -- combination of 1 and c_1 to c_7 by its components.
-use Rattle.std.specs.Prelude.{◌≡◌, ◌∷◌, ◌%◌, ◌<◌, ◌+ℤ◌, ◌-ℤ◌, ◌*ℤ◌}
-use Rattle.integers.specs.Kit.{refl, sym, ap, ◌∙◌, Bool, List, [], ℕ, zero, suc, T, eqb, ℤ, pos, negsuc, neg_ℤ, nat_abs, length}
+use Rattle.std.specs.Prelude.{◌≡◌, ◌∷◌, ◌%◌, ◌<◌, ◌+ℤ◌, ◌*ℤ◌}
+use Rattle.integers.specs.Kit.{refl, sym, ap, ◌∙◌, Bool, List, [], ℕ, zero, suc, T, eqb, ℤ, pos, negsuc, neg_ℤ, length}
 use native.Mathlib.Omega.{arith}
 use lib.Dec.{eqb→eq}
 use lib.IntN.{+ℤ_idl, +ℤ_idr, *ℤ-zero}
@@ -46,9 +46,13 @@ turn_test : T (every 32 turn_at)
 unfolding turn_at
 turn_test = tt
 
+eight_turn : (n : ℕ) → Eight (full_turn (n % 32))
+unfolding turn_at
+eight_turn n = record { eight = eqb→eq _ 8 (every-at 32 turn_at turn_test (n % 32) (omega arith)) }
+
 pub eight_cosine : (m : ℤ) → Eight (cosine m)
-unfolding turn_at cosine
-eight_cosine m = record { eight = eqb→eq _ 8 (every-at 32 turn_at turn_test (nat_abs m % 32) (omega arith)) }
+unfolding cosine
+eight_cosine m = search eight_turn
 
 -- a combination of at least one element, and a sum of at least one
 eight_combine : (f : ℕ → List ℤ) (a : List ℤ) → 0 < length a → ((k : ℕ) → k < length a → Eight (f k)) → Eight (combine f a)
@@ -67,7 +71,7 @@ eight_rule : (i j : ℕ) → Eight (by_rule i j)
 eight_rule zero zero = eight_only (pos 1) 0
 eight_rule zero (suc j) = eight_cosine (pos (suc j))
 eight_rule (suc i) zero = eight_cosine (pos (suc i))
-eight_rule (suc i) (suc j) = eight_add (eight_cosine (pos (suc i) +ℤ pos (suc j))) (eight_cosine (pos (suc i) -ℤ pos (suc j)))
+eight_rule (suc i) (suc j) = eight_add (eight_cosine _) (eight_cosine _)
 
 eight_product : (i j : ℕ) → i < 8 → j < 8 → Eight (basis_product i j)
 unfolding basis_product

@@ -30,7 +30,7 @@ rule_comm : (i j : ℕ) → by_rule i j ≡ by_rule j i
 rule_comm zero zero = refl
 rule_comm zero (suc j) = refl
 rule_comm (suc i) zero = refl
-rule_comm (suc i) (suc j) = ap₂ add (ap cosine (+ℤ_comm (pos (suc i)) (pos (suc j)))) (cosine-difference (pos (suc j)) (pos (suc i)))
+rule_comm (suc i) (suc j) = simp (+ℤ_comm (pos (suc i)) (pos (suc j)), cosine-difference (pos (suc j)) (pos (suc i)))
 
 product_comm : (i j : ℕ) → basis_product i j ≡ basis_product j i
 unfolding basis_product
