@@ -39,7 +39,7 @@ module _ (f : ℕ → ℕ → List ℤ) where
   pub double_sum_cong : (x y : ℕ → ℕ → ℤ) (u v : ℕ) → ((i j : ℕ) → i < 8 → j < 8 → x i j ≡ y i j) → double_sum_by f x u v ≡ double_sum_by f y u v
   unfolding double_sum_by
   double_sum_cong x y u v e =
-      sum_cong [] add 8 _ _ (λ i h. sum_cong [] add 8 _ _ (λ j l. ap (λ s. scale s (mul (f u i) (f v j))) (e i j h l)))
+      sum_cong [] add 8 _ _ (λ i h. sum_cong [] add 8 _ _ (λ j l. rw (e i j h l)))
 
 -- a family whose factors have all of their components
 module _ {f : ℕ → ℕ → List ℤ} (eights : (k n : ℕ) → Eight (f k n)) where

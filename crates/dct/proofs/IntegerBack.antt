@@ -34,7 +34,7 @@ total = sum (pos 0) ◌+ℤ◌
 
 pub integer_back_cong : (r s : ℕ → List ℤ) (n : ℕ) → ((k : ℕ) → k < 8 → r k ≡ s k) → integer_back r n ≡ integer_back s n
 unfolding integer_back
-integer_back_cong r s n e = sum_cong (pos 0) ◌+ℤ◌ 8 _ _ (λ k h. ap (λ a. dot a (factor k n)) (e k h))
+integer_back_cong r s n e = sum_cong (pos 0) ◌+ℤ◌ 8 _ _ (λ k h. rw (e k h))
 
 pub weighted_cong : (y z : ℕ → ℤ) (n : ℕ) → ((k : ℕ) → k < 8 → y k ≡ z k) → weighted y n ≡ weighted z n
 unfolding weighted
