@@ -16,11 +16,15 @@ none true true n = refl
 none true false n = refl
 none false t n = refl
 
--- a product is 0 where one of its factors is
-sizes : (a d : ℕ) → a * d ≡ cond (leb 1 a && (leb 1 d && true)) (a * d) 0
-sizes zero d = zero-mul d
-sizes (suc a) zero = rw (le-leb 1 (suc a) (omega arith)) (mul-zero (suc a))
-sizes (suc a) (suc d) = rw (le-leb 1 (suc a) (omega arith), le-leb 1 (suc d) (omega arith))
+whichever : (t : Bool) (n : ℕ) → n ≡ cond t n n
+whichever true n = refl
+whichever false n = refl
+
+-- a product is 0 where one of its factors is; the tests s and t pass where these are not
+sizes : (a d : ℕ) {s t : Bool} → (0 < a → s ≡ true) → (0 < d → t ≡ true) → a * d ≡ cond (s && (t && true)) (a * d) 0
+sizes zero d {s} {t} p q = rw (zero-mul d) (whichever (s && (t && true)) 0)
+sizes (suc a) zero {s} {t} p q = rw (mul-zero (suc a)) (whichever (s && (t && true)) 0)
+sizes (suc a) (suc d) p q = rw (p (omega arith), q (omega arith))
 
 module _ (k : ℕ) (words : List ℕ) where
   pub no_words : length words ≡ 0 → 0 ≡ allowed_blocks k words
@@ -37,11 +41,11 @@ module _ (k : ℕ) (words : List ℕ) where
       unfolding has_head
       too_many h =
           rw (lt-ltb 0 (length words) some, eq-eqb (kind (word_at words 0)) k e, lt-leb (blocks words) blocks_limit h)
-          (none (leb 1 (across (word_at words 0))) (leb 1 (down (word_at words 0))) (blocks words))
+          (none _ _ (blocks words))
 
       pub allowed : blocks words ≤ blocks_limit → blocks words ≡ allowed_blocks k words
       unfolding has_head
-      allowed h = rw (lt-ltb 0 (length words) some, eq-eqb (kind (word_at words 0)) k e, le-leb (blocks words) blocks_limit h) (sizes (across (word_at words 0)) (down (word_at words 0)))
+      allowed h = rw (lt-ltb 0 (length words) some, eq-eqb (kind (word_at words 0)) k e, le-leb (blocks words) blocks_limit h) (sizes _ _ (λ h. le-leb _ _ (omega arith)) (λ h. le-leb _ _ (omega arith)))
 
   -- what a head that is allowed means
 

@@ -27,7 +27,7 @@ module _ (f : Format) (words : List ℕ) where
   pub valid_shape : T (has_head f.head words) → T (eqb (length words) (size_of (blocks words))) → ValidShape f words
   valid_shape h c =
       let (some, k, a, d, few) = head_means f.head words h in
-      record { some_words = some; head_kind = k; some_across = a; some_down = d; few_blocks = few; count = eqb→eq (length words) (size_of (blocks words)) c }
+      record { some_words = some; head_kind = k; some_across = a; some_down = omega (arith, d); few_blocks = few; count = eqb→eq (length words) (size_of (blocks words)) c }
 
   pub shape_passes : ValidShape f words → Each Passes (shape f words)
   shape_passes S = (
