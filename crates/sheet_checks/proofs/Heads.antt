@@ -45,7 +45,9 @@ module _ (k : ℕ) (words : List ℕ) where
 
       pub allowed : blocks words ≤ blocks_limit → blocks words ≡ allowed_blocks k words
       unfolding has_head
-      allowed h = rw (lt-ltb 0 (length words) some, eq-eqb (kind (word_at words 0)) k e, le-leb (blocks words) blocks_limit h) (sizes _ _ (λ h. le-leb _ _ (omega arith)) (λ h. le-leb _ _ (omega arith)))
+      allowed h =
+          rw (lt-ltb 0 (length words) some, eq-eqb (kind (word_at words 0)) k e, le-leb (blocks words) blocks_limit h)
+          (sizes _ _ (λ h. le-leb _ _ (omega arith)) (λ h. le-leb _ _ (omega arith)))
 
   -- what a head that is allowed means
 
