@@ -1,32 +1,41 @@
 -- The causes of a refusal, for every list of them: what is returned has a reason, and no other answer has one; it is an acceptance exactly when no cause
 -- holds.
-use Rattle.std.specs.Prelude.{◌≡◌, ◌∷◌, ◌++◌, ◌≤◌, ◌<◌}
-use Rattle.integers.specs.Kit.{refl, sym, subst, ◌∙◌, Bool, true, false, cond, List, [], ℕ, T, eqb, ltb}
+use Rattle.std.specs.Prelude.{◌≡◌, ◌∷◌, ◌++◌, ◌≤◌, ◌<◌, Some, None}
+use Rattle.integers.specs.Kit.{refl, sym, subst, ◌∙◌, Bool, true, false, cond, List, [], ℕ, lit<, T, eqb, ltb}
 use native.Mathlib.Nat.{le_refl, le_of_lt, lt_of_lt_of_le}
 use native.Mathlib.Omega.{arith}
+use lib.Dec.{eqb→eq}
 use borrow.Author.Tests.{eq-eqb, ne_eqb, lt-ltb, le-ltb, ltb-true, ltb-false}
-use Rattle.integers.specs.Search.{any, first}
+use Rattle.integers.specs.Search.{any, first, found}
 use Rattle.integers.proofs.Search.{first_none, before_first, at_first, first-at, any_none}
 use Rattle.integers.proofs.Tests as tests
-use Rattle.answers.specs.Answer.{Returned, Cause, test, search, sized, answered, accepted, moved, moved_cause, moved_causes}
+use Rattle.answers.specs.declared.Refusal.{Refusal}
+use Rattle.answers.specs.declared.Refusal.TheVariants.{Lengths, Sample, Width, Magnitudes, NoBlock, Head, Words, End, Orientation, Step, Coefficient}
+use Rattle.answers.specs.Answer.{Returned, Cause, test, search, sized, answered, accept, accepted, refused, moved, moved_cause, moved_causes}
 use Rattle.answers.specs.Answer.{Passes, Names, fails, faulty_at, Reason, holds, passes, none_holds, Each, Numbered}
 
 -- what a search of the code answers
 
-module _ (size : ℕ) (faulty : ℕ → Bool) {i : ℕ} (f : i ≡ first size faulty) where
-  pub found : {refusal : ℕ → Returned} → i < size → Names (search size faulty refusal) (refusal i)
-  found h = faulty_at i h (λ j l. before_first size faulty j (omega (arith, f, l))) (rw (← f) at (at_first size faulty (rw f at h)))
+module _ (size : ℕ) (faulty : ℕ → Bool) where
+  at_lowest : {i : ℕ} → i ≡ first size faulty → {refusal : ℕ → Returned} → i < size → Names (search size faulty refusal) (refusal i)
+  at_lowest {i} f h = faulty_at i h (λ j l. before_first size faulty j (omega (arith, f, l))) (rw (← f) at (at_first size faulty (rw f at h)))
 
-  pub not_found : size ≤ i → (j : ℕ) → j < size → faulty j ≡ false
-  not_found h j l = before_first size faulty j (rw (← f) (lt_of_lt_of_le l h))
+  past_all : {i : ℕ} → i ≡ first size faulty → size ≤ i → (j : ℕ) → j < size → faulty j ≡ false
+  past_all f h j l = before_first size faulty j (rw (← f) (lt_of_lt_of_le l h))
 
--- and a loop without an early exit before it
-module _ (size : ℕ) (faulty : ℕ → Bool) {t : Bool} (a : t ≡ any size faulty) where
-  pub some_found : t ≡ true → {i : ℕ} → i ≡ first size faulty → {refusal : ℕ → Returned} → Names (search size faulty refusal) (refusal i)
-  some_found h {i} f = found size faulty f (rw f (ltb-true (first size faulty) size (sym a ∙ h)))
+  pub found_names : (refusal : ℕ → Returned) {i : ℕ} → Some i ≡ found size faulty → Names (search size faulty refusal) (refusal i)
+  found_names refusal {i} h = go (any size faulty) refl h
+    where
+      go : (t : Bool) → any size faulty ≡ t → Some i ≡ cond t (Some (first size faulty)) None → Names (search size faulty refusal) (refusal i)
+      go true e g = let is : i ≡ first size faulty = cc in at_lowest is (rw is (ltb-true (first size faulty) size e))
+      go false e g = absurd (cc)
 
-  pub none_found : t ≡ false → (j : ℕ) → j < size → faulty j ≡ false
-  none_found h = any_none size faulty (sym a ∙ h)
+  pub found_passes : None ≡ found size faulty → (j : ℕ) → j < size → faulty j ≡ false
+  found_passes h = go (any size faulty) refl h
+    where
+      go : (t : Bool) → any size faulty ≡ t → None ≡ cond t (Some (first size faulty)) None → (j : ℕ) → j < size → faulty j ≡ false
+      go true e g = absurd (cc)
+      go false e g = any_none size faulty e
 
 -- one cause
 
@@ -62,8 +71,8 @@ some_reason (search size faulty refusal ∷ l) end = go (ltb (first size faulty)
   where
     go : (t : Bool) → ltb (first size faulty) size ≡ t → Reason end l (answered l end)
         → Reason end (search size faulty refusal ∷ l) (cond t (refusal (first size faulty)) (answered l end))
-    go true e R = holds (found size faulty refl (ltb-true (first size faulty) size e))
-    go false e R = passes (not_found size faulty refl (ltb-false (first size faulty) size e)) R
+    go true e R = holds (at_lowest size faulty refl (ltb-true (first size faulty) size e))
+    go false e R = passes (past_all size faulty refl (ltb-false (first size faulty) size e)) R
 
 -- a call is accepted exactly when no cause holds
 
@@ -95,14 +104,57 @@ pub passed_before : {end : Returned} (l : List Cause) {rest : List Cause} {r : R
 passed_before [] p R = R
 passed_before (c ∷ l) (p, more) R = passes p (passed_before l more R)
 
--- an answer a by its number n, as the code reads it
+-- checks in code, one after the other
 
-module _ (a : Returned) {n : ℕ} (g : n ≡ a.number) where
-  pub refused-number : (n ≡ 0 → ⊥) → accepted a ≡ false
-  refused-number x = ne_eqb a.number 0 (λ z. x (g ∙ z))
+-- a refusal is no acceptance
+pub not_accepted : (e : Refusal) → accepted (refused e) ≡ false
+not_accepted Lengths = refl
+not_accepted (Sample i) = refl
+not_accepted Width = refl
+not_accepted (Magnitudes p) = refl
+not_accepted NoBlock = refl
+not_accepted (Head p) = refl
+not_accepted (Words n) = refl
+not_accepted (End i) = refl
+not_accepted Orientation = refl
+not_accepted (Step k) = refl
+not_accepted (Coefficient p) = refl
 
-  pub accepted-number : n ≡ 0 → T (accepted a)
-  accepted-number z = rw (← g, z) tt
+-- the first check refuses: so do both
+pub refused_first : (l rest : List Cause) (end : Returned) (e : Refusal) → refused e ≡ answered l accept → refused e ≡ answered (l ++ rest) end
+refused_first l rest end e h = only_reason (refused_before rest tt (not_accepted e) (subst (Reason accept l) (sym h) (some_reason l accept)))
+
+-- it accepts: then the others decide
+pub accepted_first : (l rest : List Cause) (end r : Returned) → Each Numbered l → accept ≡ answered l accept → r ≡ answered rest end → r ≡ answered (l ++ rest) end
+accepted_first l rest end r k h g =
+    only_reason (passed_before l (accepted_means l accept k (subst (λ x. T (accepted x)) h tt)) (subst (Reason end rest) (sym g) (some_reason rest end)))
+
+-- the check of one length
+
+pub sized_refused : (n m : ℕ) (rest : List Cause) (end : Returned) (e : Refusal) → refused e ≡ answered (sized n m ∷ []) accept → refused e ≡ answered (sized n m ∷ rest) end
+sized_refused n m = refused_first (sized n m ∷ [])
+
+pub sized_accepted : (n m : ℕ) (rest : List Cause) (end r : Returned) → accept ≡ answered (sized n m ∷ []) accept → r ≡ answered rest end → r ≡ answered (sized n m ∷ rest) end
+sized_accepted n m rest end r = accepted_first (sized n m ∷ []) rest end r (lit< tt, tt)
+
+-- and then it is the one that the job asks for
+pub sized_is : (n m : ℕ) → accept ≡ answered (sized n m ∷ []) accept → n ≡ m
+sized_is n m h = eqb→eq n m (accepted_means (sized n m ∷ []) accept (lit< tt, tt) (subst (λ x. T (accepted x)) h tt)).0
+
+-- no check is left
+pub no_more : (end : Returned) → end ≡ answered [] end
+unfolding answered
+no_more end = refl
+
+-- a search in code, which is the last check or comes before others
+
+pub found_refused : (size : ℕ) (faulty : ℕ → Bool) (refusal : ℕ → Returned) (rest : List Cause) (end : Returned) {i : ℕ} → Some i ≡ found size faulty
+    → refusal i ≡ answered (search size faulty refusal ∷ rest) end
+found_refused size faulty refusal rest end {i} h = only_reason (holds (found_names size faulty refusal h))
+
+pub none_found : (size : ℕ) (faulty : ℕ → Bool) (refusal : ℕ → Returned) (rest : List Cause) (end r : Returned) → None ≡ found size faulty
+    → r ≡ answered rest end → r ≡ answered (search size faulty refusal ∷ rest) end
+none_found size faulty refusal rest end r h g = only_reason (passes (found_passes size faulty h) (subst (Reason end rest) (sym g) (some_reason rest end)))
 
 -- a buffer of the length that a job asks for, and one of another
 

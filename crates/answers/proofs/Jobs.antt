@@ -2,7 +2,9 @@
 use Rattle.std.specs.Prelude.{◌≡◌}
 use Rattle.integers.specs.Kit.{sym, ◌∙◌, Bool, true, false, cond, ℕ}
 use Rattle.integers.proofs.Tests.{holds}
-use Rattle.answers.specs.Answer.{Returned, Reason, Each, Passes, Numbered, accepted}
+use Rattle.answers.specs.declared.Refusal.{Refusal}
+use Rattle.answers.specs.Answer.{Returned, Reason, Each, Passes, Numbered, accept_with, accepted}
+use Rattle.answers.specs.Answer as answers
 use Rattle.answers.specs.Job.{Job, job_returned, job_left, Accepts, Refuses}
 use Rattle.answers.proofs.Causes as causes
 
@@ -27,17 +29,17 @@ module _ {A : Type 0} (j : Job A) where
   unfolding job_left
   refused_leaves h = rw h
 
-  -- a job in code: its check answers a, whose number is n. Where it is not 0, the job leaves what a refused call does; where it is, its result.
-  module _ {a : Returned} (e : a ≡ job_returned j) {n : ℕ} (f : n ≡ a.number) where
-    pub refused : (n ≡ 0 → ⊥) → j.was ≡ job_left j
-    refused x = sym (refused_leaves (rw (← e) (causes.refused-number a f x)))
+  -- a job in code: where its check refuses, it leaves what a refused call does; and where it accepts, its result
 
-    module _ (z : n ≡ 0) where
-      pub is_accepted : Accepts j
-      is_accepted = rw (← e) (causes.accepted-number a f z)
+  pub refused : (e : Refusal) → answers.refused e ≡ job_returned j → j.was ≡ job_left j
+  refused e h = sym (refused_leaves (rw (← h) (causes.not_accepted e)))
 
-      pub done : {left : A} → left ≡ j.result → left ≡ job_left j
-      done g = g ∙ sym (accepted_leaves is_accepted)
+  module _ (n : ℕ) (h : accept_with n ≡ job_returned j) where
+    pub is_accepted : Accepts j
+    is_accepted = rw (← h) tt
+
+    pub done : {left : A} → left ≡ j.result → left ≡ job_left j
+    done g = g ∙ sym (accepted_leaves is_accepted)
 
 -- two jobs that return the same: what the one leaves is f of what the other does, where that holds of both their results and of what was there
 pub same_left : {A B : Type 0} (f : A → B) (j : Job A) (k : Job B) → job_returned k ≡ job_returned j → f j.result ≡ k.result → f j.was ≡ k.was

@@ -1,28 +1,44 @@
 -- What a call returns (01, "Why a set or sheet is turned back", and 02, which adds numbers): a number, which is 0 for an accepted call, and a place.
-use Rattle.std.specs.Prelude.{◌≡◌, ◌∷◌, ◌+◌, ◌<◌}
+use Rattle.std.specs.Prelude.{◌≡◌, ◌∷◌, ◌+◌, ◌<◌, Result, Ok, Err}
 use Rattle.integers.specs.Kit.{Bool, true, false, cond, List, [], ℕ, T, ltb, eqb}
 use Rattle.integers.specs.Search.{first}
-use Rattle.answers.specs.declared.Answer.{Answer}
-use Rattle.answers.specs.declared.Answer.TheVariants.{Accepted, Lengths, Sample, Width, Magnitudes, NoBlock, Head, Words, End, Orientation, Step, Coefficient}
+use Rattle.answers.specs.declared.Refusal.{Refusal}
+use Rattle.answers.specs.declared.Refusal.TheVariants.{Lengths, Sample, Width, Magnitudes, NoBlock, Head, Words, End, Orientation, Step, Coefficient}
 
 pub record Returned : Type 0 where
   pub number : ℕ
   pub place : ℕ
 
--- the papers' number and place for each case; no two answers have both the same (`only_answer`), so that a contract that fixes them fixes the answer
-abbrev pub returned : Answer → Returned
-returned (Accepted n) = record { number = 0; place = n }
-returned Lengths = record { number = 1; place = 0 }
-returned (Sample i) = record { number = 2; place = i }
-returned Width = record { number = 3; place = 0 }
-returned (Magnitudes p) = record { number = 4; place = p }
-returned NoBlock = record { number = 5; place = 0 }
-returned (Head p) = record { number = 6; place = p }
-returned (Words n) = record { number = 7; place = n }
-returned (End i) = record { number = 8; place = i }
-returned Orientation = record { number = 9; place = 0 }
-returned (Step k) = record { number = 10; place = k }
-returned (Coefficient p) = record { number = 11; place = p }
+-- the papers' number and place for each refusal; no two answers have both the same (`only_answer`), so that a contract that fixes them fixes the answer
+abbrev pub refused : Refusal → Returned
+refused Lengths = record { number = 1; place = 0 }
+refused (Sample i) = record { number = 2; place = i }
+refused Width = record { number = 3; place = 0 }
+refused (Magnitudes p) = record { number = 4; place = p }
+refused NoBlock = record { number = 5; place = 0 }
+refused (Head p) = record { number = 6; place = p }
+refused (Words n) = record { number = 7; place = n }
+refused (End i) = record { number = 8; place = i }
+refused Orientation = record { number = 9; place = 0 }
+refused (Step k) = record { number = 10; place = k }
+refused (Coefficient p) = record { number = 11; place = p }
+
+-- "An accepted call returns 0 and place 0, a sheet 0 and the words written"
+
+abbrev pub accept_with : ℕ → Returned
+accept_with n = record { number = 0; place = n }
+
+abbrev pub accept : Returned
+accept = accept_with 0
+
+-- what is returned for a job's result: of an accepted call 0 and the place that is read from what it gives, of a refused one the refusal's number and place
+abbrev pub returned_with : {A : Type 0} → (A → ℕ) → Result A Refusal → Returned
+returned_with place (Ok x) = accept_with (place x)
+returned_with place (Err e) = refused e
+
+-- with place 0, which is every job's but sheet's and compose_orientations'
+abbrev pub returned : {A : Type 0} → Result A Refusal → Returned
+returned = returned_with (λ _. 0)
 
 -- the causes of a refusal, in the order in which a job asks for them
 
@@ -47,14 +63,6 @@ sized given asked = unless (eqb given asked) 1
 -- cause n at the lowest of the indices below `size` that is faulty
 abbrev pub lowest : ℕ → (ℕ → Bool) → ℕ → Cause
 lowest size faulty n = search size faulty (λ i. record { number = n; place = i })
-
--- no cause is left: "An accepted call returns 0 and place 0, a sheet 0 and the words written"
-
-abbrev pub accept_with : ℕ → Returned
-accept_with n = record { number = 0; place = n }
-
-abbrev pub accept : Returned
-accept = accept_with 0
 
 -- what a call returns: the first cause that holds, and `end` where none does
 unfoldable pub answered : List Cause → Returned → Returned

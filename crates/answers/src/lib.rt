@@ -1,13 +1,14 @@
-// What the public jobs answer. specs/ gives the papers' number and place for each case.
+// Why the public jobs refuse a call, and the first check of most of them, of a buffer's length. specs/ gives the papers' number and place for each case.
 #![tactic(auto)]
 
-ghost use Rattle.std.specs.Prelude.{◌≡◌};
-ghost use Rattle.answers.specs.Answer.{returned};
+ghost use Rattle.std.specs.Prelude.{◌≡◌, ◌∷◌};
+ghost use Rattle.integers.specs.Kit.{[]};
+ghost use Rattle.answers.specs.Answer as spec;
+ghost use Rattle.answers.specs.Answer.{accept, answered, returned};
 
-#[derive(Clone, Copy)]
-pub enum Answer {
-    // The call did its work. The number is how many words sheet wrote; of compose_orientations, the orientation; of every other job, 0.
-    Accepted(usize),
+// Why a call is refused.
+#[derive(Clone, Copy, Debug, PartialEq, Eq)]
+pub enum Refusal {
     // A buffer does not have the length that the job asks for.
     Lengths,
     // The sample at this index is out of range.
@@ -32,42 +33,50 @@ pub enum Answer {
     Coefficient(usize),
 }
 
-// The papers' number of an answer.
-pub fn number(a: Answer) -> u32
-    ensures { result ≡ (returned a).number }
-{
-    match a {
-        Answer::Accepted(_) => 0,
-        Answer::Lengths => 1,
-        Answer::Sample(_) => 2,
-        Answer::Width => 3,
-        Answer::Magnitudes(_) => 4,
-        Answer::NoBlock => 5,
-        Answer::Head(_) => 6,
-        Answer::Words(_) => 7,
-        Answer::End(_) => 8,
-        Answer::Orientation => 9,
-        Answer::Step(_) => 10,
-        Answer::Coefficient(_) => 11,
+impl Refusal {
+    // The papers' number of a refusal.
+    pub fn number(self) -> u32
+        ensures { result ≡ (spec.refused self).number }
+    {
+        match self {
+            Refusal::Lengths => 1,
+            Refusal::Sample(_) => 2,
+            Refusal::Width => 3,
+            Refusal::Magnitudes(_) => 4,
+            Refusal::NoBlock => 5,
+            Refusal::Head(_) => 6,
+            Refusal::Words(_) => 7,
+            Refusal::End(_) => 8,
+            Refusal::Orientation => 9,
+            Refusal::Step(_) => 10,
+            Refusal::Coefficient(_) => 11,
+        }
+    }
+
+    // The place that it names.
+    pub fn place(self) -> usize
+        ensures { result ≡ (spec.refused self).place }
+    {
+        match self {
+            Refusal::Lengths | Refusal::Width | Refusal::NoBlock | Refusal::Orientation => 0,
+            Refusal::Sample(at)
+            | Refusal::Magnitudes(at)
+            | Refusal::Head(at)
+            | Refusal::Words(at)
+            | Refusal::End(at)
+            | Refusal::Step(at)
+            | Refusal::Coefficient(at) => at,
+        }
     }
 }
 
-// The place that it names.
-pub fn place(a: Answer) -> usize
-    ensures { result ≡ (returned a).place }
+// Whether a buffer has the length that a job asks for.
+pub fn sized(given: usize, asked: usize) -> Result<(), Refusal>
+    ensures { returned result ≡ answered (spec.sized given asked ∷ []) accept }
 {
-    match a {
-        Answer::Accepted(n) => n,
-        Answer::Lengths => 0,
-        Answer::Sample(i) => i,
-        Answer::Width => 0,
-        Answer::Magnitudes(p) => p,
-        Answer::NoBlock => 0,
-        Answer::Head(p) => p,
-        Answer::Words(n) => n,
-        Answer::End(i) => i,
-        Answer::Orientation => 0,
-        Answer::Step(k) => k,
-        Answer::Coefficient(p) => p,
+    if given == asked {
+        Ok(())
+    } else {
+        Err(Refusal::Lengths)
     }
 }

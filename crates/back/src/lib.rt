@@ -10,131 +10,72 @@
 // and enough for the sums of the passes to fit 32 bits.
 #![tactic(auto)]
 
-ghost use Rattle.std.specs.Prelude.{◌≡◌};
-ghost use Rattle.integers.specs.Kit.{T, length};
-ghost use Rattle.integers.specs.Test.{eq_list};
+ghost use Rattle.std.specs.Prelude.{◌≡◌, MatchResult};
+ghost use Rattle.integers.specs.Kit.{length};
 ghost use Rattle.limits.specs.Limits.{components_size, places};
-ghost use Rattle.answers.specs.Answer.{accept, accepted, answered, returned};
+ghost use Rattle.answers.specs.Answer.{accept, answered, refused, returned};
 ghost use Rattle.answers.specs.Job.{job_left, job_returned};
-ghost use Rattle.back.specs.Back.{back_causes, back_job, candidate, is_block_of};
+ghost use Rattle.back_passes.specs.Passes.{Limited};
+ghost use Rattle.back.specs.Back.{back_causes, back_job, is_block_of};
 ghost use Rattle.back.specs.Refusal.{refused_returned};
 
-use answers::{Answer, number};
+use answers::{Refusal, sized};
 use back_passes::{READ_SIZE, restored};
 use element_sets::first_above;
 use forward::forward;
-use integers::any_outside;
+use integers::Interval;
 use limits::{COMPONENTS, MAGNITUDES_LIMIT, PLACES};
 
-// Whether two buffers of 512 numbers hold the same. The loop goes on past a difference, so that the compiler can compare several numbers at once.
-fn same(a: &[i32], b: &[i32]) -> bool
-    requires a_len { length a.now ≡ components_size }
-    requires b_len { length b.now ≡ components_size }
-    ensures { result ≡ eq_list a.now b.now }
-{
-    let mut r = true;
-    let mut i = 0;
-    while i < COMPONENTS {
-        r = r & (a[i] == b[i]);
-        i += 1;
-    }
-    r
-}
-
 // Whether a block is in range and has these elements: forward accepts it, and makes the same 512 numbers.
-fn is_block_of(elements: &[i32], block: [i32; PLACES]) -> bool
+fn is_block_of(elements: &[i32], block: &[i32; PLACES]) -> bool
     requires { length elements.now ≡ components_size }
-    ensures { result ≡ is_block_of 2 elements.now block }
+    ensures { result ≡ is_block_of 2 elements.now block.now }
 {
     let mut made = [0i32; COMPONENTS];
-    if number(forward(&block, &mut made)) != 0 {
-        return false;
-    }
-    same(&made, elements)
+    forward(block, &mut made).is_ok() && &made[..] == elements
 }
 
-// The highest and the lowest number that are not above the limit of an element's magnitudes by themselves.
-const HIGHEST_NUMBER: i32 = MAGNITUDES_LIMIT as i32;
-
-const LOWEST_NUMBER: i32 = -HIGHEST_NUMBER;
+// The numbers that are not above the limit of an element's magnitudes by themselves.
+const NUMBERS: Interval = Interval {
+    lowest: -(MAGNITUDES_LIMIT as i32),
+    highest: MAGNITUDES_LIMIT as i32,
+};
 
 // Why elements that no block has are refused: the first of them that is above the limit, or that there is no block.
-fn refusal(elements: &[i32]) -> Answer
+fn refusal(elements: &[i32]) -> Refusal
     requires { length elements.now ≡ components_size }
-    ensures { returned result ≡ refused_returned elements.now }
+    ensures { refused result ≡ refused_returned elements.now }
 {
-    let p = first_above(elements, PLACES, MAGNITUDES_LIMIT);
-    if p < PLACES {
-        return Answer::Magnitudes(p);
-    }
-    Answer::NoBlock
-}
-
-// The answer for some elements, and of an accepted call the block that has them.
-#[derive(Clone, Copy)]
-struct Found {
-    answer: Answer,
-    block: [i32; PLACES],
-}
-
-// A refusal. The block beside it is all 0, and nobody reads it.
-fn refused(answer: Answer) -> Found
-    ensures { result.answer ≡ answer }
-{
-    Found {
-        answer,
-        block: [0i32; PLACES],
+    match first_above(elements, MAGNITUDES_LIMIT) {
+        Some(p) => Refusal::Magnitudes(p),
+        None => Refusal::NoBlock,
     }
 }
 
-// Why elements are refused, with room for this many samples, or the block that has them.
-fn check(elements: &[i32], room: usize) -> Found
-    ensures answer_value { returned result.answer ≡ answered (back_causes 2 elements.now room) accept }
-    ensures block_value { T (accepted (returned result.answer)) → result.block ≡ candidate 2 elements.now }
+// Whether there is room for a block, and no number that the passes read is above the limit by itself; or why the elements are refused.
+fn check(elements: &[i32], room: usize) -> Result<(), Refusal>
+    ensures { MatchResult result (λ done. Limited elements.now × (room ≡ places)) (λ e. refused e ≡ answered (back_causes 2 elements.now room) accept) }
 {
-    if elements.len() != COMPONENTS {
-        return refused(Answer::Lengths);
-    }
-    if room != PLACES {
-        return refused(Answer::Lengths);
-    }
-    if any_outside(elements, READ_SIZE, LOWEST_NUMBER, HIGHEST_NUMBER) {
-        return refused(refusal(elements));
-    }
-    let block = restored(elements);
-    if !is_block_of(elements, block) {
-        return refused(refusal(elements));
-    }
-    Found {
-        answer: Answer::Accepted(0),
-        block,
-    }
-}
-
-// A block into a buffer.
-fn store(block: [i32; PLACES], samples: &mut [i32])
-    requires { length samples.old ≡ places }
-    ensures { samples.new ≡ block }
-{
-    let mut i = 0;
-    while i < PLACES {
-        samples[i] = block[i];
-        i += 1;
+    sized(elements.len(), COMPONENTS)?;
+    sized(room, PLACES)?;
+    if NUMBERS.first_outside(&elements[..READ_SIZE]).is_some() {
+        Err(refusal(elements))
+    } else {
+        Ok(())
     }
 }
 
 // The block of 64 samples that has these elements, or the reason why it is not written; then `samples` is as it was.
-pub fn back(elements: &[i32], samples: &mut [i32]) -> Answer
+pub fn back(elements: &[i32], samples: &mut [i32]) -> Result<(), Refusal>
     ensures result_value { returned result ≡ job_returned (back_job 2 elements.now samples.old) }
     ensures samples_after { samples.new ≡ job_left (back_job 2 elements.now samples.old) }
     ensures elements_kept { elements.exit.now ≡ elements.entry.now }
 {
-    let found = check(elements, samples.len());
-    let answer = found.answer;
-    if number(answer) != 0 {
-        return answer;
+    check(elements, samples.len())?;
+    let block = restored(elements);
+    if !is_block_of(elements, &block) {
+        return Err(refusal(elements));
     }
-    let block = found.block;
-    store(block, samples);
-    answer
+    samples.copy_from_slice(&block);
+    Ok(())
 }

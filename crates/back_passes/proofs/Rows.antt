@@ -1,12 +1,13 @@
 -- The rows on the way back, the room for them, and the block that they restore.
 use Rattle.std.specs.Prelude.{◌≡◌, ◌+◌, ◌*◌, ◌/◌, ◌%◌, ◌≤◌, ◌<◌, ◌+ℤ◌, ◌*ℤ◌, ◌&&◌}
-use Rattle.integers.specs.Kit.{sym, ap, ◌∙◌, List, ℕ, T, ltb, lit<, lit≤, ℤ, pos, nat_abs, get_or}
-use native.Mathlib.Nat.{le_trans}
+use Rattle.integers.specs.Kit.{sym, ap, ◌∙◌, List, ℕ, T, ltb, lit<, lit≤, ℤ, pos, nat_abs, length, get_or}
+use native.Mathlib.Nat.{le_trans, not-suc-le-zero}
+use native.Mathlib.Decide.{ℕ_discrete}
 use native.Mathlib.Omega.{arith}
 use lib.Dec.{ltb→lt}
 use lib.Signed.{shr_z}
 use mir.Facts.{and_yes}
-use Rattle.integers.specs.Table.{table}
+use Rattle.integers.specs.Table.{table, PartStored}
 use Rattle.integers.specs.Test.{every}
 use Rattle.integers.proofs.Tests.{every-at}
 use Rattle.integers.proofs.Division.{shr_z_exact}
@@ -113,12 +114,34 @@ module _ {e : List ℤ} (y : List ℤ) (has : elements_of 2 y ≡ e) where
       ∙ ap (λ (a : ℤ). pos 16 *ℤ a) (column-restored (column y j) i h) ∙ sym (*ℤ_assoc (pos 16) (pos 8) (column y j i)))
       ∙ shr_z_exact 128 (column y j i) (lit< tt)
 
-pub restores : {e : List ℤ} {x : List (List Element)} → Rows (λ k n. integer (known_row e k n)) x → {r : List ℤ}
-    → r ≡ table places (λ n. shr_z (weighted (λ k. component (item (row x k) (n % 8)) 0) (n / 8)) 128) → Restores e r
-restores {e} {x} X made = record { restores = λ y size has. made ∙ sym (is_table (pos 0) y places _ size (λ n h. sym (place y has n h))) }
-  where
-    place : (y : List ℤ) → elements_of 2 y ≡ e → (n : ℕ) → n < places → shr_z (weighted (λ k. component (item (row x k) (n % 8)) 0) (n / 8)) 128 ≡ sample y n
-    place y has n h =
-        let split : 8 * (n / 8) + n % 8 ≡ n = omega arith in
-        column_is y has (λ k. component (item (row x k) (n % 8)) 0) (n / 8) (n % 8) (omega arith) (omega arith)
-        (λ k b. ap (λ a. component a 0) ((X.at k b).at (n % 8) (omega arith))) ∙ ap (sample y) split
+-- sample n of the block that the rows x restore, if it is of column j
+abbrev pub restored_at : List (List Element) → ℕ → ℕ → ℤ
+restored_at x j n = shr_z (weighted (λ k. component (item (row x k) j) 0) (n / 8)) 128
+
+-- the first j columns of a block are restored
+pub record Restored (x : List (List Element)) (j : ℕ) (block : List ℤ) : Type 0 where
+  pub size : length block ≡ places
+  pub done : (n : ℕ) → n < places → n % 8 < j → get_or block n (pos 0) ≡ restored_at x (n % 8) n
+
+module _ {x : List (List Element)} where
+  pub restored_none : {block : List ℤ} → length block ≡ places → Restored x 0 block
+  restored_none e = record { size = e; done = λ n h q. absurd (not-suc-le-zero q) }
+
+  pub restored_more : {j : ℕ} {l m : List ℤ} → Restored x j l → PartStored (λ n. n % 8) j (restored_at x j) l m → Restored x (j + 1) m
+  restored_more {j} {l} {m} R S = record { size = S.size ∙ R.size; done = λ n h q. at n h q (ℕ_discrete (n % 8) j) }
+    where
+      at : (n : ℕ) → n < places → n % 8 < j + 1 → Dec (n % 8 ≡ j) → get_or m n (pos 0) ≡ restored_at x (n % 8) n
+      at n h q (yes p) = S.here n (rw R.size h) p ∙ ap (λ (i : ℕ). restored_at x i n) (sym p)
+      at n h q (no p) = S.others n (rw R.size h) p ∙ R.done n h (omega arith)
+
+  pub restored_all : {block : List ℤ} → Restored x 8 block → block ≡ table places (λ n. restored_at x (n % 8) n)
+  restored_all {block} R = is_table (pos 0) block places _ R.size (λ n h. R.done n h (omega arith))
+
+  pub restores : {e r : List ℤ} → Rows (λ k n. integer (known_row e k n)) x → r ≡ table places (λ n. restored_at x (n % 8) n) → Restores e r
+  restores {e = e} X made = record { restores = λ y size has. made ∙ sym (is_table (pos 0) y places _ size (λ n h. sym (place y has n h))) }
+    where
+      place : (y : List ℤ) → elements_of 2 y ≡ e → (n : ℕ) → n < places → restored_at x (n % 8) n ≡ sample y n
+      place y has n h =
+          let split : 8 * (n / 8) + n % 8 ≡ n = omega arith in
+          column_is y has (λ k. component (item (row x k) (n % 8)) 0) (n / 8) (n % 8) (omega arith) (omega arith)
+          (λ k b. ap (λ a. component a 0) ((X.at k b).at (n % 8) (omega arith))) ∙ ap (sample y) split

@@ -23,13 +23,13 @@ use Rattle.coefficients.proofs.Sizes.{coefficient_small}
 use Rattle.ring.proofs.Components.{negate-table}
 use Rattle.element_sets.proofs.Negated.{element_negated}
 
--- in two and three dimensions an accepted set, room for its coefficients and a width are what the core asks
-pub ready : (d : ℕ) (e : List ℤ) (b : ℕ) (c : List ℤ) → 2 ≤ d → d ≤ 3 → AcceptedSet (places_in d) (magnitudes_limit_in sample_limit d) e → length c ≡ places_in d → T (width b)
-    → Ready (places_in d) (halvings_in d) e b c
-ready d e b c some few S l w =
+-- in two and three dimensions an accepted set and room for its coefficients are what the core asks
+pub ready : (d : ℕ) (e c : List ℤ) → 2 ≤ d → d ≤ 3 → AcceptedSet (places_in d) (magnitudes_limit_in sample_limit d) e → length c ≡ places_in d
+    → Ready (places_in d) (halvings_in d) e c
+ready d e c some few S l =
     let less : d - 1 ≤ 2 = omega arith in
     let power : 16 ^ (d - 1) ≤ 16 ^ 2 = pow-le-pow_right (lit< tt) less in
-    record { ready_set = wider (omega arith) S; ready_room = l; ready_width = w; ready_halvings = record { some = omega arith; few = omega arith } }
+    record { ready_set = wider (omega arith) S; ready_room = l; ready_halvings = record { some = omega arith; few = omega arith } }
 
 -- how large a coefficient gets: none is beyond the limit of those that come in from outside
 pub coefficient_size : {e : List ℤ} (b : ℕ) → AcceptedSet places magnitudes_limit e → T (width b) → (p : ℕ) → p < places

@@ -1,14 +1,18 @@
 -- The half of an element's components that is 0, as the code finds it, and the terms of N that are left where one is.
-use Rattle.std.specs.Prelude.{◌≡◌, ◌||◌, ◌+◌, ◌-◌, ◌%◌, ◌≤◌, ◌<◌}
+use Rattle.std.specs.Prelude.{◌≡◌, ◌||◌, ◌+◌, ◌-◌, ◌%◌, ◌≤◌, ◌<◌, ◌+ℤ◌, ◌*ℤ◌}
 use Rattle.integers.specs.Kit.{refl, sym, ◌∙◌, Bool, true, false, List, ℕ, suc, ℤ, pos, length}
 use native.Mathlib.Decide.{dec_lt, ℕ_discrete}
 use native.Mathlib.Omega.{arith}
 use lib.IntN.{+ℤ_idr, *ℤ-zero}
 use lib.ListN.{get_or-eq_default}
+use mir.Syntax.{w64}
+use mir.Val.{to_z}
+use Rattle.integers.proofs.Signed.{in32, in64}
 use Rattle.ring.specs.Element.{component}
 use Rattle.rounding_error.specs.Width.{numerator}
 use Rattle.coefficients.specs.Preconditions.{partial, HalfZero, Terms, all, odds, evens}
-use Rattle.coefficients.proofs.Sizes.{partial_more, partial-all}
+use Rattle.coefficients.proofs.Sizes.{Allowed, partial_more, partial-all}
+use Rattle.coefficients.proofs.Steps.{next_step, step_kept}
 
 -- what the loop over a half knows at its index k: r says whether a component that it passed is not 0
 pub record Looked (h : ℕ) (u : List ℤ) (k : ℕ) (r : Bool) : Type 0 where
@@ -40,11 +44,6 @@ looked_all {h} {u} size l L e = record { at = λ j p s. go j p s (dec_lt j 8) }
 
 -- the terms
 
-pub step_small : {u : List ℤ} {first step : ℕ} → Terms u first step → (0 < step) × (step ≤ 2)
-step_small all = (omega arith, omega arith)
-step_small (odds Z) = (omega arith, omega arith)
-step_small (evens Z) = (omega arith, omega arith)
-
 -- what the sum knows at its index k: n is the sum of all terms before
 pub record Summed (b : ℕ) (m u : List ℤ) (first step k : ℕ) (n : ℤ) : Type 0 where
   pub room : k ≤ 6 + step
@@ -72,11 +71,16 @@ module _ (b : ℕ) (m u : List ℤ) where
         value = rw two ((rw one at e) ∙ sym (passed_over (suc k) (Z.at (suc (suc k)) (omega arith) (omega (arith, S.phase refl)))));
       }
 
-  pub summed_more : {first step k : ℕ} {n p : ℤ} → Terms u first step → k < 7 → Summed b m u first step k n → p ≡ partial b m u (k + 1)
+  summed_more : {first step k : ℕ} {n p : ℤ} → Terms u first step → k < 7 → Summed b m u first step k n → p ≡ partial b m u (k + 1)
       → Summed b m u first step (k + step) p
   summed_more all l S e = record { room = omega arith; phase = λ s. absurd (omega arith); value = e }
   summed_more (odds Z) l S e = past Z l S e
   summed_more (evens Z) l S e = past Z l S e
+
+  -- the sum r with the term at k, as it is read back
+  pub summed_next : {first step k : ℕ} {r : ℤ} → Allowed b m u → Terms u first step → k < 7 → (n : ℕ) → Summed b m u first step k (to_z w64 n)
+      → r ≡ to_z w64 n +ℤ in64 (component m k) *ℤ in32 (component u (k + 1)) → Summed b m u first step (k + step) (in64 r)
+  summed_next A T l n S e = summed_more T l S (step_kept (next_step A _ l n S.value) e)
 
   pub summed-all : {first step k : ℕ} {n : ℤ} → Terms u first step → 7 ≤ k → Summed b m u first step k n → n ≡ numerator b m u
   summed-all T l S = S.value ∙ last T l S ∙ partial-all b m u

@@ -1,6 +1,6 @@
 -- How large the sums and products of rounding get, and that the coefficient fits an i32.
 use Rattle.std.specs.Prelude.{◌≡◌, ◌+◌, ◌*◌, ◌^◌, ◌≤◌, ◌<◌, ◌+ℤ◌, ◌*ℤ◌}
-use Rattle.integers.specs.Kit.{refl, sym, List, ℕ, zero, suc, lit<, ℤ, pos, nat_abs}
+use Rattle.integers.specs.Kit.{refl, sym, List, ℕ, zero, suc, T, lit<, ℤ, pos, nat_abs}
 use native.Mathlib.Nat.{zero-add, le_refl, le_trans, lt_of_le_of_lt, mul-add, mul-le-mul, mul-le-mul_left, mul-le-mul_right}
 use native.Mathlib.Omega.{arith}
 use lib.IntN.{+ℤ_assoc, +ℤ_idr}
@@ -15,8 +15,8 @@ use Rattle.ring.proofs.Magnitude.{sizes, sizes_le, component_le}
 use Rattle.limits.specs.Limits.{magnitudes_limit, coefficient_limit, halvings}
 use Rattle.rounding_error.specs.Width.{numerator, coefficient}
 use Rattle.rounding_error.proofs.Coefficient.{coefficient-rounded}
-use Rattle.coefficients.specs.Preconditions.{ample_limit, largest, partial, Allowed, Halvings}
-use Rattle.coefficients.specs.Tables.{first_number}
+use Rattle.coefficients.specs.Preconditions.{ample_limit, largest, partial, Halvings}
+use Rattle.coefficients.specs.Tables.{width, table_numbers, first_number}
 use Rattle.coefficients.proofs.Tables.{at_most-first, first_bounds, number_small, width_small}
 
 -- the numerator, summed from the front
@@ -36,6 +36,15 @@ unfolding numerator
 partial-all b m u = refl
 
 -- how large it gets
+
+-- for N of u at b: m are the table numbers of a width, and u is within the limit
+pub record Allowed (b : ℕ) (m u : List ℤ) : Type 0 where
+  pub at_width : T (width b)
+  pub are_numbers : m ≡ table_numbers b
+  pub in_limit : magnitudes u ≤ ample_limit
+
+pub allowed : {b : ℕ} {m u : List ℤ} → T (width b) → m ≡ table_numbers b → magnitudes u ≤ ample_limit → Allowed b m u
+allowed w e l = record { at_width = w; are_numbers = e; in_limit = l }
 
 product_le : (x y : ℤ) {P : ℕ} → nat_abs x ≤ P → nat_abs (x *ℤ y) ≤ P * nat_abs y
 product_le x y h = rw (nat_abs_mul x y) (mul-le-mul_right (nat_abs y) h)

@@ -17,9 +17,9 @@ use Rattle.integers.proofs.Signed.{in32, in64, kept, read_i32, shift_kept}
 use Rattle.ring.specs.Element.{component}
 use Rattle.rounding_error.specs.Width.{numerator, coefficient}
 use Rattle.rounding_error.proofs.Bounds.{double}
-use Rattle.coefficients.specs.Preconditions.{largest, partial, Allowed, Halvings}
+use Rattle.coefficients.specs.Preconditions.{largest, partial, Halvings}
 use Rattle.coefficients.proofs.Tables.{width_small}
-use Rattle.coefficients.proofs.Sizes.{partial_none, partial_more, partial_small, term_small, number-less, component_small, numerator_small, coefficient_fits}
+use Rattle.coefficients.proofs.Sizes.{Allowed, partial_none, partial_more, partial_small, term_small, number-less, component_small, numerator_small, coefficient_fits}
 
 -- s + x·y is v, and the product and the sum fit
 pub record ProductAdded (s x y v : ℤ) : Type 0 where

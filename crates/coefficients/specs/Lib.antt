@@ -1,3 +1,4 @@
 pub mod Coefficients
 pub mod Preconditions
 pub mod Tables
+pub mod Widths

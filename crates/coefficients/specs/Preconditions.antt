@@ -1,11 +1,10 @@
 -- What the functions behind `round` ask, which is that its causes of refusal were ruled out, and how far N and its terms go.
 use Rattle.std.specs.Prelude.{◌≡◌, ◌*◌, ◌%◌, ◌^◌, ◌≤◌, ◌<◌, ◌+ℤ◌, ◌*ℤ◌}
-use Rattle.integers.specs.Kit.{List, ℕ, suc, T, ℤ, pos, length}
+use Rattle.integers.specs.Kit.{List, ℕ, suc, ℤ, pos, length}
 use Rattle.integers.specs.Sum.{sum}
-use Rattle.ring.specs.Element.{component, magnitudes}
+use Rattle.ring.specs.Element.{component}
 use Rattle.limits.specs.Limits.{sample_limit, magnitudes_limit_in}
 use Rattle.element_sets.specs.Sets.{AcceptedSet}
-use Rattle.coefficients.specs.Tables.{width, table_numbers}
 
 -- the limit of magnitudes that the code allows for: that of three dimensions, 2^26, which is above that of two
 abbrev pub ample_limit : ℕ
@@ -18,12 +17,6 @@ largest = 2 ^ 27 * ample_limit
 -- N as far as it is summed: 2^b·u_0 + m_1·u_1 + ... + m_n·u_n
 abbrev pub partial : ℕ → List ℤ → List ℤ → ℕ → ℤ
 partial b m u n = pos (2 ^ b) *ℤ component u 0 +ℤ sum (pos 0) ◌+ℤ◌ n (λ k. component m k *ℤ component u (suc k))
-
--- for N of u at b: m are the table numbers of a width, and u is within the limit
-pub record Allowed (b : ℕ) (m u : List ℤ) : Type 0 where
-  pub at_width : T (width b)
-  pub are_numbers : m ≡ table_numbers b
-  pub in_limit : magnitudes u ≤ ample_limit
 
 -- h halvings are 1 to 5, which two dimensions, with 1, and three, with 3, do not exceed
 pub record Halvings (h : ℕ) : Type 0 where
@@ -40,9 +33,8 @@ pub data Terms (u : List ℤ) : ℕ → ℕ → Type 0 where
   odds : HalfZero 0 u → Terms u 0 2
   evens : HalfZero 1 u → Terms u 1 2
 
--- for the coefficients of n elements, with h halvings: they are an accepted set, there is room for n coefficients, and b is a width
-pub record Ready (n h : ℕ) (elements : List ℤ) (b : ℕ) (coefficients : List ℤ) : Type 0 where
+-- for the coefficients of n elements, with h halvings: they are an accepted set, and there is room for n coefficients
+pub record Ready (n h : ℕ) (elements coefficients : List ℤ) : Type 0 where
   pub ready_set : AcceptedSet n ample_limit elements
   pub ready_room : length coefficients ≡ n
-  pub ready_width : T (width b)
   pub ready_halvings : Halvings h

@@ -4,9 +4,9 @@
 // `first_above` finds the element that cause 4 names. The sums are u64: eight magnitudes of 2^31 each do not fit 32 bits.
 #![tactic(auto)]
 
-ghost use Rattle.std.specs.Prelude.{◌≡◌, ◌*◌};
+ghost use Rattle.std.specs.Prelude.{◌≡◌, ◌/◌};
 ghost use Rattle.integers.specs.Kit.{length};
-ghost use Rattle.integers.specs.Search.{first};
+ghost use Rattle.integers.specs.Search.{found};
 ghost use Rattle.ring.specs.Element as ring;
 ghost use Rattle.element_sets.specs.Sets.{above_limit};
 
@@ -17,28 +17,23 @@ use integers::magnitude;
 fn magnitudes(u: Element) -> u64
     ensures { result ≡ ring.magnitudes u.components }
 {
-    let a = u.components;
-    let mut s: u64 = 0;
-    let mut k = 0;
-    while k < 8 {
-        s += magnitude(a[k]);
-        k += 1;
+    let mut sum = 0;
+    for x in u.components {
+        sum += magnitude(x);
     }
-    s
+    sum
 }
 
-// The number of the first of n elements whose magnitudes sum above the limit, or n where there is none.
-pub fn first_above(elements: &[i32], n: usize, limit: u64) -> usize
-    requires { length elements.now ≡ 8 * n }
-    ensures { result ≡ first n (above_limit limit elements.now) }
+// The number of the first element whose magnitudes sum above the limit, if there is one.
+// Kept: a loop of its own. An element is eight numbers and no item of the buffer; `integers::first` over its chunks would need a law of chunks, and a closure that makes
+// elements of them: no plainer.
+pub fn first_above(elements: &[i32], limit: u64) -> Option<usize>
+    ensures { result ≡ found (length elements.now / 8) (above_limit limit elements.now) }
 {
-    let mut p = 0;
-    while p < n {
-        let sum = magnitudes(element_at(elements, p));
-        if limit < sum {
-            return p;
+    for p in 0..elements.len() / 8 {
+        if limit < magnitudes(element_at(elements, p)) {
+            return Some(p);
         }
-        p += 1;
     }
-    p
+    None
 }

@@ -1,13 +1,12 @@
--- Rows of elements that have only some components, the others being 0, and what their steps are summed of.
+-- Rows of elements that have only some components, the others being 0, and what their steps are sums of.
 use Rattle.std.specs.Prelude.{◌≡◌, ◌<◌}
-use Rattle.integers.specs.Kit.{List, [], ℕ, ℤ, pos, length}
-use Rattle.integers.specs.Sum.{sum}
-use Rattle.ring.specs.Element.{add, cosine, mul}
+use Rattle.integers.specs.Kit.{List, ℕ, ℤ, pos}
+use Rattle.ring.specs.Element.{cosine, mul}
 use Rattle.ring.specs.Maps.{part}
 use Rattle.dct.specs.Rows.{restricted}
 use Rattle.dct.specs.Transform.{step}
 use Rattle.elements.specs.declared.Element.{Element}
-use Rattle.elements.specs.Buffer.{item, row}
+use Rattle.elements.specs.Buffer.{item}
 
 -- each of the eight elements of a row has no components but k 0 to k (m - 1): its others are 0
 pub record OnlyComponents (m : ℕ) (k : ℕ → ℕ) (row : List Element) : Type 0 where
@@ -16,11 +15,3 @@ pub record OnlyComponents (m : ℕ) (k : ℕ → ℕ) (row : List Element) : Typ
 -- c_k times frequency f of the whole numbers at component k of a row
 abbrev pub part_step : List Element → ℕ → ℕ → List ℤ
 part_step x k f = mul (cosine (pos k)) (step (λ n. part (item x n) k) f)
-
--- c_k times frequency f of a row of whole numbers
-abbrev pub product : List Element → ℕ → ℕ → List ℤ
-product a k f = mul (cosine (pos k)) (step (λ n. part (item a n) 0) f)
-
--- the sum of these over rows, the first with c_(k 0), the next with c_(k 1), and so on
-abbrev pub summed : (ℕ → ℕ) → List (List Element) → ℕ → List ℤ
-summed k rows f = sum [] add (length rows) (λ j. product (row rows j) (k j) f)

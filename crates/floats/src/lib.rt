@@ -25,21 +25,16 @@ pub fn mean_grey(y: i32) -> f32
 }
 
 // The lower of two floats.
+// Kept: the library's `min` and `max` do not say which of 0 and -0 they give, and the contracts of `lower` and `higher` do, by IEEE's order (`lt`).
 pub fn lower(x: f32, y: f32) -> f32
     ensures { result ≡ cond (lt y x) y x }
 {
-    if y < x {
-        return y;
-    }
-    x
+    if y < x { y } else { x }
 }
 
 // The higher of two floats.
 pub fn higher(x: f32, y: f32) -> f32
     ensures { result ≡ cond (lt x y) y x }
 {
-    if x < y {
-        return y;
-    }
-    x
+    if x < y { y } else { x }
 }

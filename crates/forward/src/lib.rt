@@ -8,37 +8,29 @@ ghost use Rattle.answers.specs.Answer.{accept, answered, returned};
 ghost use Rattle.answers.specs.Job.{job_left, job_returned};
 ghost use Rattle.forward.specs.Forward.{forward_causes, forward_job};
 
-use answers::{Answer, number};
+use answers::{Refusal, sized};
 use forward_passes::transform;
-use integers::{any_outside, first_outside};
-use limits::{COMPONENTS, HIGHEST_SAMPLE, LOWEST_SAMPLE, PLACES};
+use limits::{COMPONENTS, PLACES, SAMPLES};
 
 // Whether a block is accepted, or why it is refused, for an elements buffer of this length.
-fn check(samples: &[i32], room: usize) -> Answer
+fn check(samples: &[i32], room: usize) -> Result<(), Refusal>
     ensures { returned result ≡ answered (forward_causes 2 samples.now room) accept }
 {
-    if samples.len() != PLACES {
-        return Answer::Lengths;
+    sized(samples.len(), PLACES)?;
+    sized(room, COMPONENTS)?;
+    match SAMPLES.first_outside(samples) {
+        Some(at) => Err(Refusal::Sample(at)),
+        None => Ok(()),
     }
-    if room != COMPONENTS {
-        return Answer::Lengths;
-    }
-    if any_outside(samples, PLACES, LOWEST_SAMPLE, HIGHEST_SAMPLE) {
-        return Answer::Sample(first_outside(samples, PLACES, LOWEST_SAMPLE, HIGHEST_SAMPLE));
-    }
-    Answer::Accepted(0)
 }
 
 // The exact elements of a block of 64 samples, or the reason why there are none; then `elements` is as it was.
-pub fn forward(samples: &[i32], elements: &mut [i32]) -> Answer
+pub fn forward(samples: &[i32], elements: &mut [i32]) -> Result<(), Refusal>
     ensures result_value { returned result ≡ job_returned (forward_job 2 samples.now elements.old) }
     ensures elements_after { elements.new ≡ job_left (forward_job 2 samples.now elements.old) }
     ensures samples_kept { samples.exit.now ≡ samples.entry.now }
 {
-    let answer = check(samples, elements.len());
-    if number(answer) != 0 {
-        return answer;
-    }
+    check(samples, elements.len())?;
     transform(samples, elements);
-    answer
+    Ok(())
 }

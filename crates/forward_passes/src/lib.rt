@@ -22,26 +22,24 @@ use element_rows::across;
 use element_steps::{conjugate_row, fours_step, odds_step, twos_step};
 use elements::{Element, only, put};
 use integer_step::integer_step;
+use limits::{COMPONENTS, PLACES};
+
+// Kept: `AllInRange` and `Columns` are clauses: samples are lent as they came, and the columns are an 8 by 8 array of elements by value, which a type would hide.
 
 // Column j of a block, as a row of whole numbers.
-fn column(samples: &[i32], j: usize) -> [Element; 8]
-    requires samples_len { length samples.now ≡ places }
-    requires j_bound { j < 8 }
+fn column(samples: &[i32; PLACES], j: usize) -> [Element; 8]
+    requires { j < 8 }
     ensures { Row 8 (λ i. ring.integer (sample samples.now (8 * i + j))) result }
 {
-    let zero = only(0, 0);
-    let mut r = [zero; 8];
-    let mut i = 0;
-    while i < 8 {
+    let mut r = [only(0, 0); 8];
+    for i in 0..8 {
         r[i] = only(samples[8 * i + j], 0);
-        i += 1;
     }
     r
 }
 
 // The step over column j.
-fn step_of_column(samples: &[i32], j: usize) -> [Element; 8]
-    requires samples_len { length samples.now ≡ places }
+fn step_of_column(samples: &[i32; PLACES], j: usize) -> [Element; 8]
     requires all_in_range { AllInRange 2 samples.now }
     requires j_bound { j < 8 }
     ensures { Row 8 (frequencies samples.now j) result }
@@ -49,10 +47,10 @@ fn step_of_column(samples: &[i32], j: usize) -> [Element; 8]
     integer_step(column(samples, j))
 }
 
-// The steps over all columns, each as a row. They are written out, so that the compiler knows each index.
-fn columns(samples: &[i32]) -> [[Element; 8]; 8]
-    requires samples_len { length samples.now ≡ places }
-    requires all_in_range { AllInRange 2 samples.now }
+// The steps over all columns, each as a row.
+// Kept: written out, so that the compiler knows each index: by `for` or `from_fn`, a block takes forward 2,218 instructions in place of 1,574.
+fn columns(samples: &[i32; PLACES]) -> [[Element; 8]; 8]
+    requires { AllInRange 2 samples.now }
     ensures { Rows (frequencies samples.now) result }
 {
     [
@@ -68,22 +66,18 @@ fn columns(samples: &[i32]) -> [[Element; 8]; 8]
 }
 
 // The elements of row u into a buffer.
-fn store_row(e: [Element; 8], u: usize, elements: &mut [i32])
-    requires u_bound { u < 8 }
-    requires elements_len { length elements.old ≡ components_size }
+fn store_row(e: [Element; 8], u: usize, elements: &mut [i32; COMPONENTS])
+    requires { u < 8 }
     ensures { RowStored e u elements.old elements.new }
 {
-    let mut v = 0;
-    while v < 8 {
+    for v in 0..8 {
         put(elements, 8 * u + v, e[v]);
-        v += 1;
     }
 }
 
 // The rows 0 and 4 into a buffer.
-fn rows_0_4(x: [[Element; 8]; 8], elements: &mut [i32])
-    requires columns { Columns x }
-    requires elements_len { length elements.old ≡ components_size }
+fn rows_0_4(x: [[Element; 8]; 8], elements: &mut [i32; COMPONENTS])
+    requires { Columns x }
     ensures { RowsStored x (0 ∷ 4 ∷ []) elements.old elements.new }
 {
     store_row(fours_step(across(x, 0)), 0, elements);
@@ -91,9 +85,8 @@ fn rows_0_4(x: [[Element; 8]; 8], elements: &mut [i32])
 }
 
 // The row 6, and 2, its conjugate.
-fn rows_6_2(x: [[Element; 8]; 8], elements: &mut [i32])
-    requires columns { Columns x }
-    requires elements_len { length elements.old ≡ components_size }
+fn rows_6_2(x: [[Element; 8]; 8], elements: &mut [i32; COMPONENTS])
+    requires { Columns x }
     ensures { RowsStored x (6 ∷ 2 ∷ []) elements.old elements.new }
 {
     let e6 = twos_step(across(x, 6));
@@ -102,9 +95,8 @@ fn rows_6_2(x: [[Element; 8]; 8], elements: &mut [i32])
 }
 
 // The row 1, and 5, 7 and 3, each the conjugate of the one before it.
-fn odd_rows(x: [[Element; 8]; 8], elements: &mut [i32])
-    requires columns { Columns x }
-    requires elements_len { length elements.old ≡ components_size }
+fn odd_rows(x: [[Element; 8]; 8], elements: &mut [i32; COMPONENTS])
+    requires { Columns x }
     ensures { RowsStored x (1 ∷ 5 ∷ 7 ∷ 3 ∷ []) elements.old elements.new }
 {
     let e1 = odds_step(across(x, 1));
@@ -118,9 +110,8 @@ fn odd_rows(x: [[Element; 8]; 8], elements: &mut [i32])
 }
 
 // The elements of all rows into a buffer.
-fn rows(x: [[Element; 8]; 8], elements: &mut [i32])
-    requires columns { Columns x }
-    requires elements_len { length elements.old ≡ components_size }
+fn rows(x: [[Element; 8]; 8], elements: &mut [i32; COMPONENTS])
+    requires { Columns x }
     ensures { elements.new ≡ table components_size (number_of x) }
 {
     rows_0_4(x, elements);
@@ -128,6 +119,7 @@ fn rows(x: [[Element; 8]; 8], elements: &mut [i32])
     odd_rows(x, elements);
 }
 
+// Kept: slices, since its callers lend what they were lent; it makes arrays of them once.
 // The exact elements of a block whose samples are in range.
 pub fn transform(samples: &[i32], elements: &mut [i32])
     requires samples_len { length samples.now ≡ places }
@@ -135,5 +127,7 @@ pub fn transform(samples: &[i32], elements: &mut [i32])
     requires all_in_range { AllInRange 2 samples.now }
     ensures { elements.new ≡ elements_of 2 samples.now }
 {
+    let samples = samples.as_array().unwrap();
+    let elements = elements.as_mut_array().unwrap();
     rows(columns(samples), elements);
 }

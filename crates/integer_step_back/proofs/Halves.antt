@@ -1,10 +1,13 @@
 -- The halves of the transpose: room for their sums, and what they make of a row.
 use Rattle.std.specs.Prelude.{◌≡◌, ◌∷◌, ◌+◌, ◌*◌, ◌-◌, ◌%◌, ◌<◌, ◌+ℤ◌}
-use Rattle.integers.specs.Kit.{refl, sym, ap, ap₂, ◌∙◌, List, [], ℕ, lit<, lit≤, ℤ, get_or}
+use Rattle.integers.specs.Kit.{refl, sym, ap, ap₂, ◌∙◌, List, [], ℕ, T, eqb, lit<, lit≤, ℤ, get_or}
 use native.Mathlib.Nat.{le_trans}
 use native.Mathlib.Omega.{arith}
 use lib.IntN.{+ℤ_idl}
+use lib.Dec.{eqb→eq}
 use Rattle.integers.specs.Sum.{sum}
+use Rattle.integers.specs.Test.{every, every₂}
+use Rattle.integers.proofs.Tests.{every-at, every₂-at}
 use Rattle.integers.proofs.Integer.{minus-one-*ℤ}
 use Rattle.integers.proofs.Sums.{nat_abs-sum}
 use Rattle.ring.specs.Element.{add, subtract, integer}
@@ -17,6 +20,7 @@ use Rattle.elements.specs.Bound.{Within, bit_limit, headroom}
 use Rattle.elements.specs.Buffer.{Row, item}
 use Rattle.element_rows.specs.Room.{Room}
 use Rattle.element_rows.proofs.Rooms.{small_integer, small_dot, row_4, row_8, row_room}
+use Rattle.integer_step_back.specs.declared.TheConstants.{ANGLES}
 use Rattle.integer_step_back.specs.Combination.{term, along_sum}
 
 -- a term of a combination needs no more than its element
@@ -25,12 +29,29 @@ within_term {r} R n h m l = (small_integer (term (item r) n m) (le_trans (small_
 
 -- the sums of a half
 
+-- the code's angle of frequency 2i+p at place n
+abbrev pub angle_at : ℕ → ℕ → ℕ → ℕ
+angle_at p n i = get_or (get_or (get_or ANGLES p []) n []) i 0
+
+angles_test : T (every 2 (λ p. every₂ 4 (λ n i. eqb (angle_at p n i) (angle (2 * i + p) n))))
+angles_test = tt
+
+pub angle_is : (p n i : ℕ) → p < 2 → n < 4 → i < 4 → angle_at p n i ≡ angle (2 * i + p) n
+angle_is p n i h k l =
+    let tested = every-at 2 (λ p. every₂ 4 (λ n i. eqb (angle_at p n i) (angle (2 * i + p) n))) angles_test p h in
+    eqb→eq _ _ (every₂-at 4 (λ n i. eqb (angle_at p n i) (angle (2 * i + p) n)) tested n i k l)
+
 pub along_sum-half : (p : ℕ) (r : ℕ → List ℤ) (n : ℕ)
     → along_sum r (angle (2 * 0 + p) n) (angle (2 * 1 + p) n) (angle (2 * 2 + p) n) (angle (2 * 3 + p) n) ≡ half_back p r n
 unfolding half_back sum factor
 along_sum-half p r n =
     ap (λ (z : ℤ). ((z +ℤ term r 1 (angle (2 * 1 + p) n)) +ℤ term r 2 (angle (2 * 2 + p) n)) +ℤ term r 3 (angle (2 * 3 + p) n))
     (sym (+ℤ_idl (term r 0 (angle (2 * 0 + p) n))))
+
+pub angles_half : (p : ℕ) (r : ℕ → List ℤ) (n : ℕ) → p < 2 → n < 4
+    → along_sum r (angle_at p n 0) (angle_at p n 1) (angle_at p n 2) (angle_at p n 3) ≡ half_back p r n
+angles_half p r n h k =
+    rw (angle_is p n 0 h k (lit< tt), angle_is p n 1 h k (lit< tt), angle_is p n 2 h k (lit< tt), angle_is p n 3 h k (lit< tt)) (along_sum-half p r n)
 
 -- what a half gives is a sum of four numbers
 pub room_back : (p : ℕ) → p < 2 → {x e : List Element} → Room 4 (bit_limit 24) x → Row 4 (λ n. integer (half_back p (item x) n)) e → Room 4 headroom e

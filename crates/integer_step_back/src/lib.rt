@@ -8,7 +8,7 @@
 // 32 bits suffice: a sum of eight numbers of 24 bits needs 27.
 #![tactic(auto)]
 
-ghost use Rattle.std.specs.Prelude.{◌≡◌, ◌%◌, ◌-◌, ◌<◌, ◌+ℤ◌};
+ghost use Rattle.std.specs.Prelude.{◌≡◌, ◌%◌, ◌-◌, ◌<◌, ◌+ℤ◌, slice_index, ℕ};
 ghost use Rattle.ring.specs.Element as ring;
 ghost use Rattle.dct.specs.Inverse.{half_back, integer_back};
 ghost use Rattle.elements.specs.Bound.{bit_limit, headroom};
@@ -16,48 +16,63 @@ ghost use Rattle.elements.specs.Buffer.{Row, item};
 ghost use Rattle.element_rows.specs.Room.{Room};
 ghost use Rattle.integer_step_back.specs.Combination.{along_sum};
 
-use element_rows::add_halves;
+use element_rows::add_each;
 use elements::{Element, add_four, along, subtract};
 
+// Kept: `Room` is a clause, and no part of a type, for the reason that stands in `elements` of `Within`.
+
+// The angles of the frequencies 0, 2, 4 and 6, and then of 1, 3, 5 and 7, at each of the places 0 to 3: 4 at frequency 0, and (2n+1)·k at any other.
+const ANGLES: [[[usize; 4]; 4]; 2] = [
+    [
+        [4, 2, 4, 6],
+        [4, 6, 12, 18],
+        [4, 10, 20, 30],
+        [4, 14, 28, 42],
+    ],
+    [
+        [1, 3, 5, 7],
+        [3, 9, 15, 21],
+        [5, 15, 25, 35],
+        [7, 21, 35, 49],
+    ],
+];
+
 // The sum of the components of four elements, each along the cosine of its angle, none of which is a multiple of 8.
-fn combination_back(r: [Element; 4], i: usize, j: usize, k: usize, l: usize) -> Element
+fn combination_back(r: [Element; 4], angles: [usize; 4]) -> Element
     requires room { Room 4 (bit_limit 24) r }
-    requires nonzero { 0 < i % 8 }
-    requires nonzero_2 { 0 < j % 8 }
-    requires nonzero_3 { 0 < k % 8 }
-    requires nonzero_4 { 0 < l % 8 }
-    ensures { result.components ≡ ring.integer (along_sum (item r) i j k l) }
+    requires nonzero { (k : ℕ) → k < 4 → 0 < slice_index angles k % 8 }
+    ensures { result.components ≡ ring.integer (along_sum (item r) (slice_index angles 0) (slice_index angles 1) (slice_index angles 2) (slice_index angles 3)) }
 {
     add_four(
-        along(r[0], i),
-        along(r[1], j),
-        along(r[2], k),
-        along(r[3], l),
+        along(r[0], angles[0]),
+        along(r[1], angles[1]),
+        along(r[2], angles[2]),
+        along(r[3], angles[3]),
     )
 }
 
-// What the frequencies 0, 2, 4 and 6 give at the places 0 to 3: the angles are 4 at frequency 0, and (2n+1)·k at any other.
-fn even_back(x: [Element; 4]) -> [Element; 4]
-    requires { Room 4 (bit_limit 24) x }
-    ensures { Row 4 (λ n. ring.integer (half_back 0 (item x) n)) result }
+// What the even frequencies of a row, where P is 0, or the odd ones, where P is 1, give at place n.
+fn half_at<const P: usize>(x: [Element; 4], n: usize) -> Element
+    requires parity { P < 2 }
+    requires room { Room 4 (bit_limit 24) x }
+    requires n_bound { n < 4 }
+    ensures { result.components ≡ ring.integer (half_back P (item x) n) }
 {
-    let x0 = combination_back(x, 4, 2, 4, 6);
-    let x1 = combination_back(x, 4, 6, 12, 18);
-    let x2 = combination_back(x, 4, 10, 20, 30);
-    let x3 = combination_back(x, 4, 14, 28, 42);
-    [x0, x1, x2, x3]
+    combination_back(x, ANGLES[P][n])
 }
 
-// What the frequencies 1, 3, 5 and 7 give there.
-fn odd_back(x: [Element; 4]) -> [Element; 4]
-    requires { Room 4 (bit_limit 24) x }
-    ensures { Row 4 (λ n. ring.integer (half_back 1 (item x) n)) result }
+// What they give at the places 0 to 3.
+fn half_back<const P: usize>(x: [Element; 4]) -> [Element; 4]
+    requires parity { P < 2 }
+    requires room { Room 4 (bit_limit 24) x }
+    ensures { Row 4 (λ n. ring.integer (half_back P (item x) n)) result }
 {
-    let x0 = combination_back(x, 1, 3, 5, 7);
-    let x1 = combination_back(x, 3, 9, 15, 21);
-    let x2 = combination_back(x, 5, 15, 25, 35);
-    let x3 = combination_back(x, 7, 21, 35, 49);
-    [x0, x1, x2, x3]
+    [
+        half_at::<P>(x, 0),
+        half_at::<P>(x, 1),
+        half_at::<P>(x, 2),
+        half_at::<P>(x, 3),
+    ]
 }
 
 // The differences of four elements and four others, the last of them first.
@@ -80,10 +95,10 @@ fn from_halves(even: [Element; 4], odd: [Element; 4]) -> [Element; 8]
     requires room_2 { Room 4 (bit_limit 24) odd }
     ensures { Row 8 (λ n. ring.integer (half_back 0 (item even) n +ℤ half_back 1 (item odd) n)) result }
 {
-    let e = even_back(even);
-    let o = odd_back(odd);
+    let e = half_back::<0>(even);
+    let o = half_back::<1>(odd);
     let d = differences(e, o);
-    let s = add_halves(e, o);
+    let s = add_each(e, o);
     [s[0], s[1], s[2], s[3], d[0], d[1], d[2], d[3]]
 }
 

@@ -1,7 +1,7 @@
 -- The lowest index at which a test passes, as a loop that looks from the front finds it, and whether there is one, as a loop without an early
 -- exit does.
-use Rattle.std.specs.Prelude.{◌≡◌, ◌&&◌, ◌||◌, ◌+◌, ◌≤◌, ◌<◌}
-use Rattle.integers.specs.Kit.{refl, sym, ap, ap₂, subst, ◌∙◌, Bool, true, false, cond, ℕ, zero, suc, T, ltb, leb}
+use Rattle.std.specs.Prelude.{◌≡◌, ◌&&◌, ◌||◌, ◌+◌, ◌≤◌, ◌<◌, Some, None, slice_index_or}
+use Rattle.integers.specs.Kit.{refl, sym, ap, ap₂, subst, ◌∙◌, Bool, true, false, cond, List, length, ℕ, zero, suc, T, ltb, leb}
 use Prim.Native.Nat.{zero-le}
 use native.Mathlib.Nat.{le_refl, not-suc-le-zero, lt_of_lt_of_le}
 use native.Mathlib.Decide.{ℕ_discrete, dec_lt}
@@ -9,7 +9,7 @@ use native.Mathlib.Numerals.{add-one}
 use native.Mathlib.Omega.{arith}
 use lib.Dec.{leb-suc-suc}
 use borrow.Author.Tests.{lt-ltb, le-ltb, ltb-false}
-use Rattle.integers.specs.Search.{first, any}
+use Rattle.integers.specs.Search.{first, any, found, Tests}
 
 -- the test f fails at each index below i, and i is at most n: what a search knows at i
 pub record NoneBelow (n : ℕ) (f : ℕ → Bool) (i : ℕ) : Type 0 where
@@ -134,3 +134,16 @@ any-first n f a e = sym (first_none n f (record { room = le_refl n; fails = any_
 -- q is one of the indices from a on, and comes before p: what the search for the foremost asks of each q
 abbrev pub preceded_by : ℕ → (ℕ → ℕ → Bool) → ℕ → ℕ → Bool
 preceded_by a before p q = leb a q && before q p
+
+-- a test in code, asked of the item at an index
+pub tested : {A : Type 0} {post : A → Bool → Type 0} {l : List A} {passes : ℕ → Bool} → Tests post l passes → {i : ℕ} {x : A} {r : Bool} → i < length l → x ≡ slice_index_or l i x
+    → post x r → r ≡ passes i
+tested {A} {post} {l} h {i} {x} {r} b is p = h.answers i x r b (subst (λ y. post y r) is p)
+
+-- what a search answers
+
+pub found_at : {n : ℕ} {f : ℕ → Bool} {i : ℕ} → i < n → NoneBelow n f i → f i ≡ true → Some i ≡ found n f
+found_at {n} {f} {i} h P e = rw (any_at n f i h e, first-at n f i h P e) refl
+
+pub found_none : (n : ℕ) (f : ℕ → Bool) → any n f ≡ false → None ≡ found n f
+found_none n f e = rw e refl

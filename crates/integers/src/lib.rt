@@ -1,14 +1,13 @@
-// Sum and difference of two i32 as functions, so that where one is stored into an array only its fit is asked for; the lower and the higher of two; the
-// magnitude of an i32 and of an i64, as a u64, since that of the least is none of its type; and which of some i32 is the first that lies outside a range.
+// Sum and difference of two i32 as functions, so that where one is stored into an array only its fit is asked for; the magnitude of an i32 in 64 bits; ranges;
+// and which of some items is the first that passes a test.
 #![tactic(auto)]
 
-ghost use Rattle.std.specs.Prelude.{◌≡◌, ◌≤◌, ◌+ℤ◌, ◌-ℤ◌};
-ghost use Rattle.integers.specs.Kit.{cond, nat_abs, length};
-ghost use Rattle.std.specs.Int.Signed.{lt_z};
+ghost use Rattle.std.specs.Prelude.{◌≡◌, ◌+ℤ◌, ◌-ℤ◌};
+ghost use Rattle.integers.specs.Kit.{Bool, ℕ, nat_abs, length};
 ghost use Rattle.std.proofs.Common.{SFits};
 ghost use Rattle.std.specs.Int.{w32};
 ghost use Rattle.integers.specs.Range as range;
-ghost use Rattle.integers.specs.Search.{any, first};
+ghost use Rattle.integers.specs.Search.{any, found, Tests};
 
 // x + y, where it fits.
 pub fn plus(x: i32, y: i32) -> i32
@@ -26,78 +25,60 @@ pub fn minus(x: i32, y: i32) -> i32
     x - y
 }
 
-// The lower of the two.
-pub fn lower(x: i32, y: i32) -> i32
-    ensures { result ≡ cond (lt_z y x) y x }
-{
-    if y < x {
-        return y;
-    }
-    x
-}
-
-// The higher of the two.
-pub fn higher(x: i32, y: i32) -> i32
-    ensures { result ≡ cond (lt_z x y) y x }
-{
-    if x < y {
-        return y;
-    }
-    x
-}
-
-// The magnitude of x. That of -2^63 is 2^63, which no i64 holds.
-pub fn wide_magnitude(x: i64) -> u64
-    ensures { result ≡ nat_abs x }
-{
-    if x < 0 {
-        return (-1 - x) as u64 + 1;
-    }
-    x as u64
-}
-
-// The same of an i32.
+// The magnitude of x, in a type that holds the sum of eight.
 pub fn magnitude(x: i32) -> u64
     ensures { result ≡ nat_abs x }
 {
-    wide_magnitude(x as i64)
+    x.unsigned_abs() as u64
 }
 
-// Whether x lies outside a range, both ends of which belong to it.
-pub fn outside(x: i32, lowest: i32, highest: i32) -> bool
-    ensures { result ≡ range.outside lowest highest x }
-{
-    if x < lowest {
-        return true;
+// A range of whole numbers, both ends of which belong to it.
+#[derive(Clone, Copy, PartialEq, Eq)]
+pub struct Interval {
+    pub lowest: i32,
+    pub highest: i32,
+}
+
+impl Interval {
+    // Whether x lies outside.
+    pub fn excludes(self, x: i32) -> bool
+        ensures { result ≡ range.outside self.lowest self.highest x }
+    {
+        x < self.lowest || self.highest < x
     }
-    highest < x
+
+    // The lowest index of a number that does, if there is one.
+    pub fn first_outside(self, numbers: &[i32]) -> Option<usize>
+        ensures { result ≡ found (length numbers.now) (range.outside_at self.lowest self.highest numbers.now) }
+    {
+        first(numbers, |x| self.excludes(x))
+    }
 }
 
-// Whether any of the first n numbers does. The loop has no early exit, so that the compiler takes several at a time.
-pub fn any_outside(numbers: &[i32], n: usize, lowest: i32, highest: i32) -> bool
-    requires { n ≤ length numbers.now }
-    ensures { result ≡ any n (range.outside_at lowest highest numbers.now) }
+// Whether any item passes the test. The loop has no early exit, so that the compiler takes several items at a time.
+fn any<T: Copy, F: Fn(T) -> bool>(items: &[T], test: &F) -> bool
+    requires { F.IsAlwaysCallable test.now }
+    ensures { (passes : ℕ → Bool) → Tests (F.post test.now) items.now passes → result ≡ any (length items.now) passes }
 {
     let mut r = false;
-    let mut i = 0;
-    while i < n {
-        r = r | outside(numbers[i], lowest, highest);
-        i += 1;
+    for x in items {
+        r = r | test(*x);
     }
     r
 }
 
-// The lowest index of one that does, and n where there is none, found by looking at one after the other.
-pub fn first_outside(numbers: &[i32], n: usize, lowest: i32, highest: i32) -> usize
-    requires { n ≤ length numbers.now }
-    ensures { result ≡ first n (range.outside_at lowest highest numbers.now) }
+// The lowest index of an item that passes the test, if there is one: items are looked at one after the other only where there is.
+pub fn first<T: Copy, F: Fn(T) -> bool>(items: &[T], test: F) -> Option<usize>
+    requires { F.IsAlwaysCallable test }
+    ensures { (passes : ℕ → Bool) → Tests (F.post test) items.now passes → result ≡ found (length items.now) passes }
 {
-    let mut i = 0;
-    while i < n {
-        if outside(numbers[i], lowest, highest) {
-            return i;
-        }
-        i += 1;
+    if !any(items, &test) {
+        return None;
     }
-    i
+    for (i, x) in items.iter().enumerate() {
+        if test(*x) {
+            return Some(i);
+        }
+    }
+    None
 }

@@ -1,1 +1,2 @@
 pub mod Orientation
+pub mod Numbers

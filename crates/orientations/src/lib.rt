@@ -17,6 +17,34 @@ use limits::PLACES;
 // There are eight, 0 to 7.
 pub const ORIENTATIONS: u32 = 8;
 
+// An orientation by its number, which is also its row and column in the table.
+#[derive(Clone, Copy, PartialEq, Eq)]
+pub struct Orientation {
+    pub number: usize,
+    pub ghost known: { number < spec.orientations },
+}
+
+// A number that no orientation has.
+#[derive(Clone, Copy, PartialEq, Eq)]
+pub struct NoOrientation;
+
+impl TryFrom<u32> for Orientation {
+    ghost use Rattle.orientations.specs.Numbers.{Read};
+
+    type Error = NoOrientation;
+
+    ghost try_from_gives = { Read };
+
+    fn try_from(number: u32) -> Result<Self, NoOrientation> {
+        if number >= ORIENTATIONS {
+            return Err(NoOrientation);
+        }
+        Ok(Orientation {
+            number: number as usize,
+        })
+    }
+}
+
 // The orientation that the first, which names the row, is when followed by the second, which names the column.
 const COMPOSITIONS: [[usize; 8]; 8] = [
     [0, 1, 2, 3, 4, 5, 6, 7],
@@ -29,34 +57,35 @@ const COMPOSITIONS: [[usize; 8]; 8] = [
     [7, 6, 5, 4, 3, 2, 1, 0],
 ];
 
-pub fn composed(first: usize, second: usize) -> usize
-    requires first_lt_orientations { first < spec.orientations }
-    requires second_lt_orientations { second < spec.orientations }
-    ensures { result ≡ spec.composed first second }
+pub fn composed(first: Orientation, second: Orientation) -> Orientation
+    ensures { result.number ≡ spec.composed first.number second.number }
 {
-    COMPOSITIONS[first][second]
-}
-
-// The number of the element that comes to the place p.
-fn source(orientation: usize, p: usize) -> usize
-    requires { p < places }
-    ensures { result ≡ spec.source orientation p }
-{
-    if orientation < 4 {
-        return p;
+    Orientation {
+        number: COMPOSITIONS[first.number][second.number],
     }
-    8 * (p % 8) + p / 8
 }
 
-// Whether it comes as its negative: mirrored left and right where v is odd, top and bottom where u is; one negation cancels the other.
-fn is_negated(orientation: usize, p: usize) -> bool
-    requires orientation_lt_orientations { orientation < spec.orientations }
-    requires p_lt_places { p < places }
-    ensures { spec.sign orientation p ≡ cond result (negsuc 0) (pos 1) }
-{
-    let across = (orientation % 2 == 1) & (p % 2 == 1);
-    let down = (orientation / 2 % 2 == 1) & (p / 8 % 2 == 1);
-    across != down
+impl Orientation {
+    // The number of the element that comes to the place p.
+    fn source(self, p: usize) -> usize
+        requires { p < places }
+        ensures { result ≡ spec.source self.number p }
+    {
+        if self.number < 4 {
+            return p;
+        }
+        8 * (p % 8) + p / 8
+    }
+
+    // Whether it comes as its negative: mirrored left and right where v is odd, top and bottom where u is; one negation cancels the other.
+    fn is_negated(self, p: usize) -> bool
+        requires { p < places }
+        ensures { spec.sign self.number p ≡ cond result (negsuc 0) (pos 1) }
+    {
+        let across = (self.number % 2 == 1) & (p % 2 == 1);
+        let down = (self.number / 2 % 2 == 1) & (p / 8 % 2 == 1);
+        across != down
+    }
 }
 
 // An element or its negative.
@@ -71,16 +100,13 @@ fn signed(a: Element, negated: bool) -> Element
 }
 
 // The elements of an accepted set, each at its place and with its sign.
-pub fn orient(elements: &[i32], orientation: usize, output: &mut [i32])
+pub fn orient(elements: &[i32], orientation: Orientation, output: &mut [i32])
     requires accepted_set { AcceptedSet places magnitudes_limit elements.now }
-    requires orientation_lt_orientations { orientation < spec.orientations }
     requires output_len { length output.old ≡ components_size }
-    ensures { output.new ≡ spec.reoriented_elements orientation elements.now }
+    ensures { output.new ≡ spec.reoriented_elements orientation.number elements.now }
 {
-    let mut p = 0;
-    while p < PLACES {
-        let a = element_at(elements, source(orientation, p));
-        put(output, p, signed(a, is_negated(orientation, p)));
-        p += 1;
+    for p in 0..PLACES {
+        let a = element_at(elements, orientation.source(p));
+        put(output, p, signed(a, orientation.is_negated(p)));
     }
 }

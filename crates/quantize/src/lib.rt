@@ -13,44 +13,32 @@ ghost use Rattle.answers.specs.Job.{job_left, job_returned};
 ghost use Rattle.quantize.specs.Preconditions.{PlacesReady};
 ghost use Rattle.quantize.specs.Quantize as spec;
 
-use answers::{Answer, number};
-use integers::{any_outside, first_outside};
-use limits::{COEFFICIENT_LIMIT, PLACES};
+use answers::{Refusal, sized};
+use limits::{COEFFICIENTS, PLACES};
 use quantizer::{first_step_outside, indices, quantized};
 
 // Causes 1 and 10, for buffers of n and of m numbers.
-pub fn check_steps(n: usize, steps: &[u32], m: usize) -> Answer
+pub fn check_steps(n: usize, steps: &[u32], m: usize) -> Result<(), Refusal>
     ensures { returned result ≡ answered (spec.step_causes n steps.now m) accept }
 {
-    if n != PLACES {
-        return Answer::Lengths;
+    sized(n, PLACES)?;
+    sized(steps.len(), PLACES)?;
+    sized(m, PLACES)?;
+    match first_step_outside(steps) {
+        Some(k) => Err(Refusal::Step(k)),
+        None => Ok(()),
     }
-    if steps.len() != PLACES {
-        return Answer::Lengths;
-    }
-    if m != PLACES {
-        return Answer::Lengths;
-    }
-    let k = first_step_outside(steps);
-    if k < PLACES {
-        return Answer::Step(k);
-    }
-    Answer::Accepted(0)
 }
 
 // Whether coefficients are accepted, or why they are refused, for a values buffer of this length.
-fn check(coefficients: &[i32], steps: &[u32], room: usize) -> Answer
+fn check(coefficients: &[i32], steps: &[u32], room: usize) -> Result<(), Refusal>
     ensures { returned result ≡ answered (spec.causes (beyond_at coefficient_limit coefficients.now) (length coefficients.now) steps.now room) accept }
 {
-    let answer = check_steps(coefficients.len(), steps, room);
-    if number(answer) != 0 {
-        return answer;
+    check_steps(coefficients.len(), steps, room)?;
+    match COEFFICIENTS.first_outside(coefficients) {
+        Some(at) => Err(Refusal::Coefficient(at)),
+        None => Ok(()),
     }
-    if any_outside(coefficients, PLACES, -COEFFICIENT_LIMIT, COEFFICIENT_LIMIT) {
-        let p = first_outside(coefficients, PLACES, -COEFFICIENT_LIMIT, COEFFICIENT_LIMIT);
-        return Answer::Coefficient(p);
-    }
-    Answer::Accepted(0)
 }
 
 // The quantized values of 64 coefficients within the limit.
@@ -59,24 +47,19 @@ fn fill(coefficients: &[i32], steps: &[u32], values: &mut [i32])
     ensures { values.new ≡ spec.quantized_values coefficients.now steps.now }
 {
     let order = indices();
-    let mut p = 0;
-    while p < PLACES {
+    for p in 0..PLACES {
         values[p] = quantized(coefficients[p], steps[order[p] as usize]);
-        p += 1;
     }
 }
 
 // The quantized values of 64 coefficients, or why they are refused; then `values` is as it was.
-pub fn quantize(coefficients: &[i32], steps: &[u32], values: &mut [i32]) -> Answer
+pub fn quantize(coefficients: &[i32], steps: &[u32], values: &mut [i32]) -> Result<(), Refusal>
     ensures result_value { returned result ≡ job_returned (spec.quantize_job coefficients.now steps.now values.old) }
     ensures values_after { values.new ≡ job_left (spec.quantize_job coefficients.now steps.now values.old) }
     ensures coefficients_kept { coefficients.exit.now ≡ coefficients.entry.now }
     ensures steps_kept { steps.exit.now ≡ steps.entry.now }
 {
-    let answer = check(coefficients, steps, values.len());
-    if number(answer) != 0 {
-        return answer;
-    }
+    check(coefficients, steps, values.len())?;
     fill(coefficients, steps, values);
-    answer
+    Ok(())
 }

@@ -6,12 +6,12 @@
 ghost use Rattle.std.specs.Prelude.{◌≡◌, ◌<◌, ◌+◌, ◌*◌, ◌/◌, ◌≤◌};
 ghost use Rattle.integers.specs.Kit.{nat_abs, length};
 ghost use Rattle.integers.specs.Range.{beyond};
-ghost use Rattle.integers.specs.Search.{any, first};
+ghost use Rattle.integers.specs.Search.{found};
 ghost use Rattle.limits.specs.Limits.{coefficient_limit, dequantized_limit, places, step_limit};
 ghost use Rattle.quantizer.specs.Quantizer as spec;
 ghost use Rattle.quantizer.specs.ZigZag.{indices_by_row};
 
-use integers::magnitude;
+use integers::first;
 use limits::{DEQUANTIZED_LIMIT, PLACES, STEP_LIMIT};
 
 // The indices that the zig-zag order gives the places, row by row: T.81, Figure A.6. They stand in one list, since reading by row and column takes longer.
@@ -28,6 +28,7 @@ pub fn indices() -> [u8; PLACES]
     INDICES
 }
 
+// Kept: a step is a u32 and a product an i64, and each has a test of its own beside `Interval`: a generic one would speak of its type's order, and each use of the numbers'.
 // Whether a quantization step is out of range.
 fn step_outside(step: u32) -> bool
     ensures { result ≡ spec.step_outside step }
@@ -35,39 +36,15 @@ fn step_outside(step: u32) -> bool
     (step < 1) | (STEP_LIMIT < step)
 }
 
-// Whether any of 64 steps is out of range. The loop has no early exit, so that the compiler takes several at a time.
-fn any_step_outside(steps: &[u32]) -> bool
-    requires { length steps.now ≡ places }
-    ensures { result ≡ any places (spec.step_outside_at steps.now) }
+// The lowest index of a step out of range, if there is one.
+pub fn first_step_outside(steps: &[u32]) -> Option<usize>
+    ensures { result ≡ found (length steps.now) (spec.step_outside_at steps.now) }
 {
-    let mut r = false;
-    let mut k = 0;
-    while k < PLACES {
-        r = r | step_outside(steps[k]);
-        k += 1;
-    }
-    r
-}
-
-// The lowest index of a step out of range, and 64 where there is none. The search is made only where `any_step_outside` says that there is one.
-pub fn first_step_outside(steps: &[u32]) -> usize
-    requires { length steps.now ≡ places }
-    ensures { result ≡ first places (spec.step_outside_at steps.now) }
-{
-    if !any_step_outside(steps) {
-        return PLACES;
-    }
-    let mut k = 0;
-    while k < PLACES {
-        if step_outside(steps[k]) {
-            return k;
-        }
-        k += 1;
-    }
-    k
+    first(steps, |step| step_outside(step))
 }
 
 // a over 8 · step, to the nearest, and at a half to the upper one.
+// Kept: the bounds of a step are asked here and below, since 64 steps are looked at together; a type would be made anew at each place, with this proof.
 fn quotient(a: u32, step: u32) -> u32
     requires a_le_coefficient_limit { a ≤ coefficient_limit }
     requires step_nonzero { 0 < step }
@@ -84,9 +61,9 @@ pub fn quantized(y: i32, step: u32) -> i32
     requires step_le_step_limit { step ≤ step_limit }
     ensures { result ≡ spec.quantized y step }
 {
-    let q = quotient(magnitude(y) as u32, step) as i32;
+    let q = quotient(y.unsigned_abs(), step) as i32;
     if y < 0 {
-        return 0 - q;
+        return -q;
     }
     q
 }
@@ -96,9 +73,7 @@ pub fn dequantized(q: i32, step: u32) -> i64
     requires { step ≤ step_limit }
     ensures { result ≡ spec.dequantized q step }
 {
-    let divisor = (8 * step) as i64;
-    let wide = q as i64;
-    divisor * wide
+    i64::from(8 * step) * i64::from(q)
 }
 
 // Whether a dequantized coefficient is beyond its limit.

@@ -5,59 +5,56 @@
 // cause.
 #![tactic(auto)]
 
-ghost use Rattle.std.specs.Prelude.{◌≡◌};
-ghost use Rattle.answers.specs.Answer.{accept, answered, returned};
+ghost use Rattle.std.specs.Prelude.{◌≡◌, IfOk, MatchResult};
+ghost use Rattle.integers.specs.Kit.{false, ltb};
+ghost use Rattle.answers.specs.declared.Refusal.TheVariants as refusal;
+ghost use Rattle.answers.specs.Answer.{accept, answered, returned, returned_with};
 ghost use Rattle.answers.specs.Job.{job_left, job_returned};
+ghost use Rattle.orientations.specs.Orientation.{orientations};
 ghost use Rattle.reorient.specs.Reorient.{compose_job, reorient_causes, reorient_job};
 
-use answers::{Answer, number};
+use answers::{Refusal, sized};
 use element_sets::first_above;
-use limits::{COMPONENTS, MAGNITUDES_LIMIT, PLACES};
-use orientations::{ORIENTATIONS, composed, orient};
+use limits::{COMPONENTS, MAGNITUDES_LIMIT};
+use orientations::{Orientation, composed, orient};
 
-// Whether a call is accepted, with room for this many numbers, and why not.
-fn check(elements: &[i32], orientation: u32, room: usize) -> Answer
-    ensures { returned result ≡ answered (reorient_causes elements.now orientation room) accept }
+// The orientation that has this number, or that none has it.
+fn numbered(number: u32) -> Result<Orientation, Refusal>
+    ensures { MatchResult result (λ o. o.number ≡ number) (λ e. (e ≡ refusal.Orientation) × (ltb number orientations ≡ false)) }
 {
-    if elements.len() != COMPONENTS {
-        return Answer::Lengths;
+    Orientation::try_from(number).map_err(|_| Refusal::Orientation)
+}
+
+// The orientation of an accepted call, or why it is refused, with room for this many numbers.
+fn check(elements: &[i32], orientation: u32, room: usize) -> Result<Orientation, Refusal>
+    ensures returned_value { returned result ≡ answered (reorient_causes elements.now orientation room) accept }
+    ensures orientation_value { IfOk result (λ o. o.number ≡ orientation) }
+{
+    sized(elements.len(), COMPONENTS)?;
+    sized(room, COMPONENTS)?;
+    let known = numbered(orientation)?;
+    match first_above(elements, MAGNITUDES_LIMIT) {
+        Some(p) => Err(Refusal::Magnitudes(p)),
+        None => Ok(known),
     }
-    if room != COMPONENTS {
-        return Answer::Lengths;
-    }
-    if orientation >= ORIENTATIONS {
-        return Answer::Orientation;
-    }
-    let p = first_above(elements, PLACES, MAGNITUDES_LIMIT);
-    if p < PLACES {
-        return Answer::Magnitudes(p);
-    }
-    Answer::Accepted(0)
 }
 
 // 512 numbers of elements in the given orientation, or why they are refused; then `output` is as it was.
-pub fn reorient(elements: &[i32], orientation: u32, output: &mut [i32]) -> Answer
+pub fn reorient(elements: &[i32], orientation: u32, output: &mut [i32]) -> Result<(), Refusal>
     ensures result_value { returned result ≡ job_returned (reorient_job elements.now orientation output.old) }
     ensures output_after { output.new ≡ job_left (reorient_job elements.now orientation output.old) }
     ensures elements_kept { elements.exit.now ≡ elements.entry.now }
 {
-    let answer = check(elements, orientation, output.len());
-    if number(answer) != 0 {
-        return answer;
-    }
-    orient(elements, orientation as usize, output);
-    answer
+    let known = check(elements, orientation, output.len())?;
+    orient(elements, known, output);
+    Ok(())
 }
 
-// The orientation that the first followed by the second is, as the place of an accepted answer.
-pub fn compose_orientations(first: u32, second: u32) -> Answer
-    ensures { returned result ≡ job_returned (compose_job first second) }
+// The orientation that the first followed by the second is, by its number, or why there is none.
+pub fn compose_orientations(first: u32, second: u32) -> Result<usize, Refusal>
+    ensures { returned_with (λ n. n) result ≡ job_returned (compose_job first second) }
 {
-    if first >= ORIENTATIONS {
-        return Answer::Orientation;
-    }
-    if second >= ORIENTATIONS {
-        return Answer::Orientation;
-    }
-    Answer::Accepted(composed(first as usize, second as usize))
+    let row = numbered(first)?;
+    let column = numbered(second)?;
+    Ok(composed(row, column).number)
 }

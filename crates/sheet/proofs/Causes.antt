@@ -1,17 +1,16 @@
--- The causes of a refusal of a sheet: the ways out of `check`, and which calls are accepted.
+-- The causes of a refusal of a sheet: which calls are accepted, and which word a refusal names.
 use Rattle.std.specs.Prelude.{◌≡◌, ◌∷◌, ◌≤◌}
-use Rattle.integers.specs.Kit.{sym, ◌∙◌, Bool, true, false, not, List, [], ℕ, T, leb, lit<, ℤ, length}
+use Rattle.integers.specs.Kit.{List, [], ℕ, T, leb, lit<, ℤ, length}
 use lib.Dec.{eqb→eq, leb→le}
-use borrow.Author.Tests.{le-leb, not-true, not-false}
-use Rattle.answers.specs.Answer.{Returned, Cause, Each, Numbered, Passes, Reason, holds, fails, passes, answered, accept_with, sized, unless}
+use borrow.Author.Tests.{le-leb}
+use Rattle.answers.specs.Answer.{Each, Numbered, Passes, passes, accept_with}
 use Rattle.answers.specs.Job.{job_returned, Accepts, Refuses}
-use Rattle.answers.proofs.Causes.{some_reason, only_reason, refused_before, passed_before, refused-number, right_length}
+use Rattle.answers.proofs.Causes.{passed_before, right_length, some_reason}
 use Rattle.answers.proofs.Jobs as jobs
 use Rattle.coefficients.specs.Tables.{width}
 use Rattle.sheet_checks.specs.Check.{sample_format, shape, contents}
 use Rattle.sheet_checks.specs.Sheets.{ValidShape, ValidSheet, WordFault}
 use Rattle.sheet_checks.proofs.Faults.{cause_named}
-use Rattle.sheet_checks.proofs.Causes as checks
 use Rattle.sheet_checks.proofs.Sheets.{valid_shape, shape_passes, contents_pass, valid_sheet, refused-word}
 use Rattle.sheet_blocks.specs.Blocks.{Scratch}
 use Rattle.sheet_blocks.specs.Preconditions.{Checked}
@@ -20,39 +19,6 @@ use Rattle.sheet.specs.Sheet.{sheet_causes, sheet_job}
 -- the output has room for n words
 pub roomy : {n o : ℕ} → n ≤ o → T (leb n o)
 roomy {n} {o} h = rw (le-leb n o h) tt
-
-module _ (size : ℕ) (words : List ℕ) (b s o : ℕ) where
-  abbrev end : Returned
-  end = accept_with (length words)
-
-  abbrev Answered : Returned → Type 0
-  Answered r = r ≡ answered (sheet_causes size words b s o) end
-
-  -- the causes past the width, and past the shape
-  abbrev past_shape : List Cause
-  past_shape = sized s size ∷ unless (leb (length words) o) 1 ∷ contents sample_format words ∷ []
-
-  -- r is what `is_width` answers
-  module _ {r : Bool} (e : r ≡ width b) where
-    pub no_width : not r ≡ true → Answered (record { number = 3; place = 0 })
-    no_width t = only_reason (holds (fails (sym e ∙ not-true r t)))
-
-    -- at a width, a is what `check_shape` answers, and n its number
-    module _ (t : not r ≡ false) {a : Returned} (f : a ≡ answered (shape sample_format words) end) {n : ℕ} (g : n ≡ a.number) where
-      at_width : T (width b)
-      at_width = rw (← e, not-false r t) tt
-
-      pub wrong_shape : (n ≡ 0 → ⊥) → Answered a
-      wrong_shape x =
-          let R : Reason end (shape sample_format words) a = rw f (some_reason (shape sample_format words) end) in
-          only_reason (passes at_width (refused_before past_shape tt (refused-number a g x) R))
-
-      module _ (z : n ≡ 0) where
-        pub shaped : ValidShape sample_format words
-        shaped = checks.shaped sample_format words f g z
-
-        pub past : {r : Returned} → Reason end past_shape r → Answered r
-        past R = only_reason (passes at_width (passed_before (shape sample_format words) (shape_passes sample_format words shaped) R))
 
 -- none of the causes holds
 

@@ -1,4 +1,5 @@
 -- The laws of the sheet job.
 pub mod Causes
+pub mod Exits
 pub mod Meaning
 pub mod Opposite

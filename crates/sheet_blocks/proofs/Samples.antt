@@ -85,5 +85,5 @@ module _ {K : Scratch} {words : List ℕ} {b s o : ℕ} (C : Checked K words b s
   output_coefficient p l = rw (output_body b words k p l block_words) (coefficient_kept block_fit p l)
 
 -- what the core of rounding asks of a block whose samples are in range
-pub block_ready : {x e c : List ℤ} {b : ℕ} → AllInRange 2 x → e ≡ elements_of 2 x → length c ≡ places → T (width b) → Ready places halvings e b c
-block_ready {x} {e} {c} {b} range same l w = ready 2 e b c (lit≤ tt) (lit≤ tt) (rw same (block-set 1 x range)) l w
+pub block_ready : {x e c : List ℤ} → AllInRange 2 x → e ≡ elements_of 2 x → length c ≡ places → Ready places halvings e c
+block_ready {x} {e} {c} range same l = ready 2 e c (lit≤ tt) (lit≤ tt) (rw same (block-set 1 x range)) l

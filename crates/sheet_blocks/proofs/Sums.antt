@@ -1,18 +1,17 @@
 -- The two sums of a sheet: how they grow by a block, that 64 bits hold them, and that they are equal.
 use Rattle.std.specs.Prelude.{◌≡◌, ◌+◌, ◌*◌, ◌^◌, ◌≤◌, ◌<◌, ◌+ℤ◌}
-use Rattle.integers.specs.Kit.{refl, sym, ap, ap₂, ◌∙◌, List, ℕ, lit<, ℤ, pos, nat_abs, length}
+use Rattle.integers.specs.Kit.{refl, sym, ap, ◌∙◌, List, ℕ, lit<, ℤ, pos, nat_abs, length}
 use Prim.Native.Nat.{zero-le}
 use native.Mathlib.Nat.{lt_of_le_of_lt, mul_comm}
 use native.Mathlib.Numerals.{add-one}
 use native.Mathlib.Omega.{arith}
-use lib.Signed.{nat_abs-le}
-use mir.Syntax.{w32, w64}
+use mir.Syntax.{w32}
 use mir.Val.{SFits}
 use Rattle.integers.specs.Sum.{sum}
 use Rattle.integers.specs.Table.{over, table}
-use Rattle.integers.proofs.Magnitudes.{nat_abs-add, small_fits}
+use Rattle.integers.proofs.Magnitudes.{small_fits}
 use Rattle.integers.proofs.Overwriting.{before_part, get_d_over}
-use Rattle.integers.proofs.Signed.{in32, in64, kept, read_i32}
+use Rattle.integers.proofs.Signed.{in32, kept}
 use Rattle.integers.proofs.Sums.{integers, nat_abs-sum, sum_append, sum-blocks, sum_cong}
 use Rattle.integers.proofs.Tables.{get_d_table, length-table}
 use Rattle.limits.specs.Limits.{blocks_limit, places, sample_limit}
@@ -84,14 +83,11 @@ module _ {x : List ℤ} where
     pub adding_more : {r : ℤ} → r ≡ z +ℤ in32 v → Adding x (i + 1) (in32 r)
     adding_more f = record { room = omega arith; value = ap in32 (f ∙ next) ∙ kept w32 (sum (pos 0) ◌+ℤ◌ (i + 1) (sample x)) small }
 
-  pub adding_all : {i : ℕ} {z : ℤ} → places ≤ i → Adding x i z → z ≡ block_sum x
-  adding_all {i} h A = let all : i ≡ places = omega (arith, A.room) in rw all at A.value
-
 -- the sums that the loop carries
 
-pub agree_none : (words output : List ℕ) → Agree words output 0 (record { samples = pos 0; firsts = pos 0 })
+pub agree_none : (words output : List ℕ) {t : Totals} → t.samples ≡ pos 0 → t.firsts ≡ pos 0 → Agree words output 0 t
 unfolding sample_sum first_sum sum
-agree_none words output = record { of_samples = refl; of_firsts = refl }
+agree_none words output e f = record { of_samples = e; of_firsts = f }
 
 module _ {words was : List ℕ} {k : ℕ} {t : Totals} (A : Agree words was k t) where
   -- the words of block k are written, and those before it are kept
@@ -112,20 +108,6 @@ module _ {words was : List ℕ} {k : ℕ} {t : Totals} (A : Agree words was k t)
       let samples = nat_abs-sum (places * k) value_limit (body_value words) (λ i h. value_small (word_at words (1 + i))) in
       let firsts = nat_abs-sum k value_limit (λ j. value_at was (1 + places * j)) (λ j h. value_small (word_at was (1 + places * j))) in
       record { of_samples = rw A.of_samples (omega arith); of_firsts = rw A.of_firsts (omega arith) }
-
--- so that 64 bits hold such a sum z, and what it comes to with x, as the code reads and adds them
-module _ (z x : ℤ) (bound : nat_abs z < 2 ^ 62) (fits : SFits w32 x) where
-  total-read : in64 z +ℤ in32 x ≡ z +ℤ x
-  total-read = ap₂ ◌+ℤ◌ (kept w64 z (omega arith)) (read_i32 x fits)
-
-  total_small : nat_abs (z +ℤ x) < 2 ^ 63
-  total_small = omega (arith, nat_abs-add z x, nat_abs-le x fits.sfits)
-
-  pub total_fits : SFits w64 (in64 z +ℤ in32 x)
-  total_fits = rw total-read (small_fits w64 (z +ℤ x) total_small)
-
-  pub total_kept : {r : ℤ} → r ≡ in64 z +ℤ in32 x → in64 r ≡ z +ℤ x
-  total_kept e = ap in64 (e ∙ total-read) ∙ kept w64 (z +ℤ x) total_small
 
 -- the first coefficients of a sheet, as the output has them once all blocks are written
 

@@ -7,7 +7,9 @@ use Rattle.io.specs.Counts.{IsPrefixLen}
 use Rattle.integers.specs.Table.{over}
 use Rattle.integers.proofs.Overwriting.{take-over}
 use Rattle.limits.specs.Limits.{components_size}
-use Rattle.answers.specs.Answer.{Returned, accept_with, accepted}
+use Rattle.answers.specs.declared.Refusal.{Refusal}
+use Rattle.answers.specs.Answer as answers
+use Rattle.answers.specs.Answer.{accept_with, accepted}
 use Rattle.answers.specs.Job.{Job}
 use Rattle.answers.proofs.Causes as causes
 use Rattle.answers.proofs.Jobs.{refused, done}
@@ -15,16 +17,16 @@ use Rattle.sheet_blocks.specs.Blocks.{element_scratch}
 use Rattle.sheet.proofs.Causes.{numbered, passes_checked}
 use Rattle.sheet_bytes.specs.Program.{input_causes, input_job, input_returned, program_bytes, program_width, refusal_line, words_limit, words_of}
 
--- a is the answer for the bytes, and n its number; `made` is what the program makes of an accepted sheet's words
-module _ {a : Returned} (bytes : List ℕ) (e : a ≡ input_returned bytes) {n : ℕ} (f : n ≡ a.number) (made : List ℕ → List ℕ) where
+-- `made` is what the program makes of an accepted sheet's words
+module _ (bytes : List ℕ) (made : List ℕ → List ℕ) where
   abbrev job : Job (List ℕ)
   job = input_job made (refusal_line (input_returned bytes)) bytes
 
-  pub refused_bytes : (n ≡ 0 → ⊥) → refusal_line a ≡ program_bytes made bytes
-  refused_bytes x = ap refusal_line e ∙ refused job e f x
+  pub refused_bytes : (e : Refusal) → answers.refused e ≡ input_returned bytes → refusal_line (answers.refused e) ≡ program_bytes made bytes
+  refused_bytes e h = ap refusal_line h ∙ refused job e h
 
-  pub accepted_bytes : n ≡ 0 → made (words_of bytes) ≡ program_bytes made bytes
-  accepted_bytes z = done job e f z refl
+  pub accepted_bytes : (n : ℕ) → accept_with n ≡ input_returned bytes → made (words_of bytes) ≡ program_bytes made bytes
+  accepted_bytes n h = done job n h refl
 
 -- an accepted sheet is answered by the count of its words, which is within the limit
 pub accepted_words : (bytes : List ℕ) → T (accepted (input_returned bytes))

@@ -1,8 +1,9 @@
 -- The causes of a sheet as a whole, for a job that asks for no others: which sheets pass, and each way out of `check_sheet`.
 use Rattle.std.specs.Prelude.{◌≡◌, ◌∷◌}
 use Rattle.integers.specs.Kit.{false, List, [], ℕ, T, eqb, lit<, length}
-use Rattle.answers.specs.Answer.{Returned, Each, Passes, Reason, holds, passes, none_holds, accept_with, accepted, answered}
-use Rattle.answers.proofs.Causes.{excludes, only_reason, some_reason, accepted_means, refused_before, passed_before, refused-number, accepted-number}
+use Rattle.answers.specs.declared.Refusal.{Refusal}
+use Rattle.answers.specs.Answer.{Returned, Each, Passes, Reason, holds, passes, none_holds, accept, accepted, answered, refused}
+use Rattle.answers.proofs.Causes.{excludes, accepted_first, accepted_means, refused_first}
 use Rattle.sheet_checks.specs.declared.Format.{Format}
 use Rattle.sheet_checks.specs.Check.{blocks, size_of, has_head, shape, contents, check_causes}
 use Rattle.sheet_checks.specs.Sheets.{ValidShape, ValidSheet, WordFault}
@@ -30,25 +31,16 @@ module _ (f : Format) (words : List ℕ) where
       go p q a (passes _ (passes _ (holds n))) h = in_words f words n
       go p q a (passes _ (passes _ (passes _ none_holds))) h = absurd (rw h at a)
 
-  -- the shape's answer is a, and n its number
+  -- where the shape is refused, so is the sheet; and where not, the words decide
 
-  abbrev end : Returned
-  end = accept_with (length words)
+  pub shape_refused : (e : Refusal) → refused e ≡ answered (shape f words) accept → refused e ≡ answered (check_causes f words) accept
+  shape_refused e h = refused_first (shape f words) (contents f words ∷ []) accept e h
 
-  module _ {a : Returned} (e : a ≡ answered (shape f words) end) {n : ℕ} (g : n ≡ a.number) where
-    pub wrong_shape : (n ≡ 0 → ⊥) → a ≡ answered (check_causes f words) end
-    wrong_shape x =
-        let R : Reason end (shape f words) a = rw e (some_reason (shape f words) end) in
-        only_reason (refused_before (contents f words ∷ []) tt (refused-number a g x) R)
+  module _ (h : accept ≡ answered (shape f words) accept) where
+    pub shaped : ValidShape f words
+    shaped =
+        let (head, (count, rest)) = accepted_means (shape f words) accept (lit< tt, (lit< tt, tt)) (rw (← h) tt) in
+        sheets.valid_shape f words head count
 
-    module _ (z : n ≡ 0) where
-      shape_right : Each Passes (shape f words)
-      shape_right = accepted_means (shape f words) end (lit< tt, (lit< tt, tt)) (rw e at (accepted-number a g z))
-
-      pub shaped : ValidShape f words
-      shaped = let (h, (c, rest)) = shape_right in sheets.valid_shape f words h c
-
-      pub words_decide : {r : Returned} → r ≡ answered (contents f words ∷ []) end → r ≡ answered (check_causes f words) end
-      words_decide {r} d =
-          let R : Reason end (contents f words ∷ []) r = rw d (some_reason (contents f words ∷ []) end) in
-          only_reason (passed_before (shape f words) shape_right R)
+    pub words_decide : {r : Returned} → r ≡ answered (contents f words ∷ []) accept → r ≡ answered (check_causes f words) accept
+    words_decide {r} d = accepted_first (shape f words) (contents f words ∷ []) accept r (lit< tt, (lit< tt, tt)) h d

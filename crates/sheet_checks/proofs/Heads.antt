@@ -1,54 +1,23 @@
--- The head of a sheet, as the code looks at it: a head is allowed where the product of its sizes is neither 0 nor above the limit.
-use Rattle.std.specs.Prelude.{◌≡◌, ◌&&◌, ◌*◌, ◌≤◌, ◌<◌}
+-- The head of a sheet: what one that is allowed means, and what the search for one answers.
+use Rattle.std.specs.Prelude.{◌≡◌, ◌&&◌, ◌*◌, ◌≤◌, ◌<◌, Some, None}
 use Rattle.integers.specs.Kit.{refl, Bool, true, false, cond, List, ℕ, zero, suc, T, eqb, ltb, leb, length}
-use Prim.Native.Nat.{zero-le}
-use native.Mathlib.Nat.{zero-mul, mul-zero, mul-pos}
+use native.Mathlib.Nat.{mul-pos, mul-zero, zero-mul}
 use native.Mathlib.Omega.{arith}
 use lib.Dec.{eqb→eq, leb→le}
 use mir.Facts.{and_yes}
-use borrow.Author.Tests.{eq-eqb, ne_eqb, lt-ltb, le-leb, lt-leb}
+use borrow.Author.Tests.{eq-eqb, lt-ltb, le-leb}
+use Rattle.integers.proofs.Tests.{holds}
 use Rattle.limits.specs.Limits.{blocks_limit}
 use Rattle.words.specs.Word.{kind, across, down}
 use Rattle.sheet_checks.specs.Check.{word_at, blocks, sizes_allowed, has_head, allowed_blocks}
 
-none : (s t : Bool) (n : ℕ) → 0 ≡ cond (s && (t && false)) n 0
-none true true n = refl
-none true false n = refl
-none false t n = refl
-
-whichever : (t : Bool) (n : ℕ) → n ≡ cond t n n
-whichever true n = refl
-whichever false n = refl
-
--- a product is 0 where one of its factors is; the tests s and t pass where these are not
-sizes : (a d : ℕ) {s t : Bool} → (0 < a → s ≡ true) → (0 < d → t ≡ true) → a * d ≡ cond (s && (t && true)) (a * d) 0
-sizes zero d {s} {t} p q = rw (zero-mul d) (whichever (s && (t && true)) 0)
-sizes (suc a) zero {s} {t} p q = rw (mul-zero (suc a)) (whichever (s && (t && true)) 0)
-sizes (suc a) (suc d) p q = rw (p (omega arith), q (omega arith))
+-- a product is above 0 where both of its factors are
+pub factors : (a d : ℕ) → 0 < a * d → (1 ≤ a) × (1 ≤ d)
+factors zero d h = absurd (omega (arith, rw (zero-mul d) at h))
+factors (suc a) zero h = absurd (omega (arith, rw (mul-zero (suc a)) at h))
+factors (suc a) (suc d) h = (omega arith, omega arith)
 
 module _ (k : ℕ) (words : List ℕ) where
-  pub no_words : length words ≡ 0 → 0 ≡ allowed_blocks k words
-  unfolding has_head
-  no_words e = rw (e)
-
-  module _ (some : 0 < length words) where
-    pub other_kind : (kind (word_at words 0) ≡ k → ⊥) → 0 ≡ allowed_blocks k words
-    unfolding has_head
-    other_kind n = rw (lt-ltb 0 (length words) some, ne_eqb (kind (word_at words 0)) k n)
-
-    module _ (e : kind (word_at words 0) ≡ k) where
-      pub too_many : blocks_limit < blocks words → 0 ≡ allowed_blocks k words
-      unfolding has_head
-      too_many h =
-          rw (lt-ltb 0 (length words) some, eq-eqb (kind (word_at words 0)) k e, lt-leb (blocks words) blocks_limit h)
-          (none _ _ (blocks words))
-
-      pub allowed : blocks words ≤ blocks_limit → blocks words ≡ allowed_blocks k words
-      unfolding has_head
-      allowed h =
-          rw (lt-ltb 0 (length words) some, eq-eqb (kind (word_at words 0)) k e, le-leb (blocks words) blocks_limit h)
-          (sizes _ _ (λ h. le-leb _ _ (omega arith)) (λ h. le-leb _ _ (omega arith)))
-
   -- what a head that is allowed means
 
   pub head_means : T (has_head k words)
@@ -72,23 +41,28 @@ module _ (k : ℕ) (words : List ℕ) where
   pub some_blocks : T (has_head k words) → 0 < blocks words
   some_blocks h = let (_, _, a, d, _) = head_means h in mul-pos a d
 
-  pub few_blocks : allowed_blocks k words ≤ blocks_limit
-  few_blocks = go (has_head k words) (λ h. let (_, _, _, _, few) = head_means h in few)
-    where
-      go : (t : Bool) → (T t → blocks words ≤ blocks_limit) → cond t (blocks words) 0 ≤ blocks_limit
-      go true h = h tt
-      go false h = zero-le
+  -- what the search for one answers
 
-  pub no_head : allowed_blocks k words ≡ 0 → has_head k words ≡ false
-  no_head e = go (has_head k words) some_blocks e
-    where
-      go : (t : Bool) → (T t → 0 < blocks words) → cond t (blocks words) 0 ≡ 0 → t ≡ false
-      go true h e = absurd (omega (arith, h tt))
-      go false h e = refl
+  pub allowed : T (has_head k words) → Some (blocks words) ≡ allowed_blocks k words
+  allowed h = rw (holds (has_head k words) h)
 
-  pub a_head : (allowed_blocks k words ≡ 0 → ⊥) → (has_head k words ≡ true) × (allowed_blocks k words ≡ blocks words)
-  a_head n = go (has_head k words) n
+  pub not_allowed : (T (has_head k words) → ⊥) → None ≡ allowed_blocks k words
+  not_allowed n = go (has_head k words) n
     where
-      go : (t : Bool) → (cond t (blocks words) 0 ≡ 0 → ⊥) → (t ≡ true) × (cond t (blocks words) 0 ≡ blocks words)
-      go true n = (refl, refl)
-      go false n = absurd (n refl)
+      go : (t : Bool) → (T t → ⊥) → None ≡ cond t (Some (blocks words)) None
+      go true n = absurd (n tt)
+      go false n = refl
+
+  pub a_head : {n : ℕ} → Some n ≡ allowed_blocks k words → T (has_head k words) × (n ≡ blocks words)
+  a_head {n} e = go (has_head k words) e
+    where
+      go : (t : Bool) → Some n ≡ cond t (Some (blocks words)) None → T t × (n ≡ blocks words)
+      go true e = (tt, (cc))
+      go false e = absurd (cc)
+
+  pub no_head : None ≡ allowed_blocks k words → has_head k words ≡ false
+  no_head e = go (has_head k words) e
+    where
+      go : (t : Bool) → None ≡ cond t (Some (blocks words)) None → t ≡ false
+      go true e = absurd (cc)
+      go false e = refl

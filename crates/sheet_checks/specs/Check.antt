@@ -1,5 +1,5 @@
 -- The check of a sheet of any format (01, "Sheets" and "Why a set or sheet is turned back").
-use Rattle.std.specs.Prelude.{◌&&◌, ◌||◌, ◌∷◌, ◌++◌, ◌+◌, ◌*◌}
+use Rattle.std.specs.Prelude.{◌&&◌, ◌||◌, ◌∷◌, ◌++◌, ◌+◌, ◌*◌, Option, Some, None}
 use Rattle.integers.specs.Kit.{Bool, cond, not, List, [], ℕ, suc, eqb, ltb, leb, ℤ, pos, neg_ℤ, length, get_or}
 use Rattle.integers.specs.Range.{outside}
 use Rattle.limits.specs.Limits.{places, blocks_limit, coefficient_limit, lowest_sample, highest_sample}
@@ -16,17 +16,22 @@ out_of_range Coefficients = 11
 
 -- a value is out of the range of a format
 abbrev pub outside_format : Format → ℤ → Bool
-outside_format f = outside f.lowest f.highest
+outside_format f = outside f.range.lowest f.range.highest
 
 -- the format of a sample sheet
 abbrev pub sample_format : Format
 sample_format =
-    record { head = sample_head_kind; body = sample_kind; values = Samples; lowest = lowest_sample; highest = highest_sample }
+    record { head = sample_head_kind; body = sample_kind; values = Samples; range = record { lowest = lowest_sample; highest = highest_sample } }
 
 -- the format of a coefficient sheet that comes in from outside (02, request 4): "with kinds 4 and 3; a payload beyond the limit is 11"
 abbrev pub coefficient_format : Format
 coefficient_format =
-    record { head = coefficient_head_kind; body = coefficient_kind; values = Coefficients; lowest = neg_ℤ (pos coefficient_limit); highest = pos coefficient_limit }
+    record {
+      head = coefficient_head_kind;
+      body = coefficient_kind;
+      values = Coefficients;
+      range = record { lowest = neg_ℤ (pos coefficient_limit); highest = pos coefficient_limit };
+    }
 
 -- word i of a sheet
 abbrev pub word_at : List ℕ → ℕ → ℕ
@@ -52,9 +57,9 @@ size_of n = 2 + places * n
 unfoldable pub has_head : ℕ → List ℕ → Bool
 has_head k words = ltb 0 (length words) && (eqb (kind (word_at words 0)) k && sizes_allowed (word_at words 0))
 
--- the blocks of a sheet that has a head of the kind k, and 0 of another
-abbrev pub allowed_blocks : ℕ → List ℕ → ℕ
-allowed_blocks k words = cond (has_head k words) (blocks words) 0
+-- the blocks of a sheet that has a head of the kind k
+abbrev pub allowed_blocks : ℕ → List ℕ → Option ℕ
+allowed_blocks k words = cond (has_head k words) (Some (blocks words)) None
 
 -- the causes 6 and 7 of a sheet as a whole, in this order; a wrong count is named by the count given
 abbrev pub shape : Format → List ℕ → List Cause

@@ -2,18 +2,18 @@
 // for, and which of these is the first that has a fault? The format is a parameter, so that every kind of sheet can have the same check.
 #![tactic(auto)]
 
-ghost use Rattle.std.specs.Prelude.{◌≡◌, ◌∷◌, ◌<◌, ◌≤◌};
-ghost use Rattle.integers.specs.Kit.{true, [], length};
-ghost use Rattle.integers.specs.Search.{any};
+ghost use Rattle.std.specs.Prelude.{◌≡◌, ◌∷◌, ◌≤◌};
+ghost use Rattle.integers.specs.Kit.{[], cond, length};
+ghost use Rattle.integers.specs.Search.{found};
 ghost use Rattle.limits.specs.Limits.{blocks_limit};
-ghost use Rattle.answers.specs.Answer.{accept_with, answered, returned};
+ghost use Rattle.answers.specs.Answer.{accept, answered, refused, returned};
 ghost use Rattle.sheet_checks.specs.Check as check;
 ghost use Rattle.sheet_checks.specs.Sheets.{ValidShape};
 
-use answers::{Answer, number};
-use integers::outside;
-use limits::{BLOCKS_LIMIT, COEFFICIENT_LIMIT, HIGHEST_SAMPLE, LOWEST_SAMPLE, PLACES};
-use words::{COEFFICIENT, COEFFICIENT_HEAD, END, SAMPLE, SAMPLE_HEAD, kind, payload, value};
+use answers::Refusal;
+use integers::{Interval, first};
+use limits::{BLOCKS_LIMIT, COEFFICIENTS, PLACES, SAMPLES};
+use words::{Kind, has_kind, kind_number, payload, value};
 
 // What the words of a sheet's body hold.
 #[derive(Clone, Copy)]
@@ -25,31 +25,29 @@ pub enum Values {
 // What the words of a sheet have to be.
 #[derive(Clone, Copy)]
 pub struct Format {
+    // Kept: numbers, and no Kind: a format may have any kinds, and theorems speak of every format (`in_words`).
     // The kind of its head.
     pub head: u32,
-    // The kind of the words of its body, what they hold, and the lowest and the highest that they may.
+    // The kind of the words of its body, what they hold, and the range of that.
     pub body: u32,
     pub values: Values,
-    pub lowest: i32,
-    pub highest: i32,
+    pub range: Interval,
 }
 
 // A sheet of samples.
 pub const SAMPLE_FORMAT: Format = Format {
-    head: SAMPLE_HEAD,
-    body: SAMPLE,
+    head: Kind::SampleHead as u32,
+    body: Kind::Sample as u32,
     values: Values::Samples,
-    lowest: LOWEST_SAMPLE,
-    highest: HIGHEST_SAMPLE,
+    range: SAMPLES,
 };
 
 // A sheet of coefficients.
 pub const COEFFICIENT_FORMAT: Format = Format {
-    head: COEFFICIENT_HEAD,
-    body: COEFFICIENT,
+    head: Kind::CoefficientHead as u32,
+    body: Kind::Coefficient as u32,
     values: Values::Coefficients,
-    lowest: -COEFFICIENT_LIMIT,
-    highest: COEFFICIENT_LIMIT,
+    range: COEFFICIENTS,
 };
 
 // The words of a sheet of n blocks: a head, the blocks and an end word.
@@ -60,143 +58,99 @@ fn size_of(n: usize) -> usize
     2 + PLACES * n
 }
 
-// The blocks of a sheet, or 0 where it does not begin with a head of this kind, or its sizes are not allowed: a size of 0 makes 0 blocks.
-fn blocks_of(head: u32, sheet: &[u32]) -> usize
+// The blocks of a sheet that begins with a head of this kind whose sizes are allowed: a size of 0 makes 0 blocks.
+fn blocks_of(head: u32, sheet: &[u32]) -> Option<usize>
     ensures { result ≡ check.allowed_blocks head sheet.now }
 {
-    if sheet.len() == 0 {
-        return 0;
+    let [w, ..] = sheet else {
+        return None;
+    };
+    let n = words::blocks(*w) as usize;
+    if kind_number(*w) == head && 0 < n && n <= BLOCKS_LIMIT {
+        Some(n)
+    } else {
+        None
     }
-    let w = sheet[0];
-    if kind(w) != head {
-        return 0;
-    }
-    let n = words::blocks(w) as usize;
-    if BLOCKS_LIMIT < n {
-        return 0;
-    }
-    n
 }
 
 // The check of the head and of the count of words.
-pub fn check_shape(f: Format, sheet: &[u32]) -> Answer
-    ensures { returned result ≡ answered (check.shape f sheet.now) (accept_with (length sheet.now)) }
+pub fn check_shape(f: Format, sheet: &[u32]) -> Result<(), Refusal>
+    ensures { returned result ≡ answered (check.shape f sheet.now) accept }
 {
-    let n = blocks_of(f.head, sheet);
-    if n == 0 {
-        return Answer::Head(0);
+    let Some(n) = blocks_of(f.head, sheet) else {
+        return Err(Refusal::Head(0));
+    };
+    if sheet.len() == size_of(n) {
+        Ok(())
+    } else {
+        Err(Refusal::Words(sheet.len()))
     }
-    if sheet.len() != size_of(n) {
-        return Answer::Words(sheet.len());
+}
+
+// The refusal of a value that is out of range, at index i.
+fn out_of_range(v: Values, i: usize) -> Refusal
+    ensures { refused result ≡ record { number = check.out_of_range v; place = i } }
+{
+    match v {
+        Values::Samples => Refusal::Sample(i),
+        Values::Coefficients => Refusal::Coefficient(i),
     }
-    Answer::Accepted(sheet.len())
+}
+
+// The refusal of a word of the body that has a fault, at index i: kind before value.
+fn body_refusal(f: Format, w: u32, i: usize) -> Refusal
+    ensures { refused result ≡ record { number = check.body_cause f w; place = i } }
+{
+    if kind_number(w) == f.body {
+        out_of_range(f.values, i)
+    } else {
+        Refusal::Words(i)
+    }
+}
+
+// The check of the end word of n blocks, at index i: kind before payload.
+fn check_end(n: usize, w: u32, i: usize) -> Result<(), Refusal>
+    ensures { returned result ≡ cond (check.end_faulty n w) (record { number = check.end_cause w; place = i }) accept }
+{
+    if !has_kind(w, Kind::End) {
+        return Err(Refusal::Words(i));
+    }
+    if payload(w) as usize != n {
+        return Err(Refusal::End(i));
+    }
+    Ok(())
 }
 
 // Whether a word of the body has a fault.
 fn body_faulty(f: Format, w: u32) -> bool
     ensures { result ≡ check.body_faulty f w }
 {
-    if kind(w) != f.body {
-        return true;
-    }
-    outside(value(w), f.lowest, f.highest)
+    kind_number(w) != f.body || f.range.excludes(value(w))
 }
 
-// Whether the end word of n blocks has one.
-fn end_faulty(n: usize, w: u32) -> bool
-    ensures { result ≡ check.end_faulty n w }
+// The index in a sheet's body of the first word that has a fault, if one has.
+fn first_faulty(f: Format, body: &[u32]) -> Option<usize>
+    ensures { result ≡ found (length body.now) (λ i. check.body_faulty f (check.word_at body.now i)) }
 {
-    if kind(w) != END {
-        return true;
-    }
-    payload(w) as usize != n
-}
-
-// Whether any word of a sheet of n blocks has one. The loop has no early exit, so that the compiler takes several words at a time.
-fn any_faulty(f: Format, n: usize, sheet: &[u32]) -> bool
-    requires n_value { n ≡ check.blocks sheet.now }
-    requires in_bounds { 1 < length sheet.now }
-    ensures { result ≡ any (length sheet.now) (check.faulty f sheet.now) }
-{
-    let last = sheet.len() - 1;
-    let mut r = false;
-    let mut k = 1;
-    while k < last {
-        r = r | body_faulty(f, sheet[k]);
-        k += 1;
-    }
-    r | end_faulty(n, sheet[last])
-}
-
-// The refusal of a value that is out of range, at index i.
-fn out_of_range(v: Values, i: usize) -> Answer
-    ensures { returned result ≡ record { number = check.out_of_range v; place = i } }
-{
-    match v {
-        Values::Samples => Answer::Sample(i),
-        Values::Coefficients => Answer::Coefficient(i),
-    }
-}
-
-// The refusal of a word of the body that has a fault, at index i: kind before value.
-fn body_refusal(f: Format, w: u32, i: usize) -> Answer
-    ensures { returned result ≡ record { number = check.body_cause f w; place = i } }
-{
-    if kind(w) != f.body {
-        return Answer::Words(i);
-    }
-    let values = f.values;
-    out_of_range(values, i)
-}
-
-// The refusal of an end word that has a fault, at index i.
-fn end_refusal(w: u32, i: usize) -> Answer
-    ensures { returned result ≡ record { number = check.end_cause w; place = i } }
-{
-    if kind(w) != END {
-        return Answer::Words(i);
-    }
-    Answer::End(i)
-}
-
-// The refusal of the first word that has a fault, found by looking at one after the other.
-fn first_faulty(f: Format, n: usize, sheet: &[u32]) -> Answer
-    requires n_value { n ≡ check.blocks sheet.now }
-    requires in_bounds { 1 < length sheet.now }
-    requires some_faulty { any (length sheet.now) (check.faulty f sheet.now) ≡ true }
-    ensures { returned result ≡ answered (check.contents f sheet.now ∷ []) (accept_with (length sheet.now)) }
-{
-    let last = sheet.len() - 1;
-    let mut i = 1;
-    while i < last {
-        let w = sheet[i];
-        if body_faulty(f, w) {
-            return body_refusal(f, w, i);
-        }
-        i += 1;
-    }
-    end_refusal(sheet[last], last)
+    first(body, |w| body_faulty(f, w))
 }
 
 // The check of the words of a sheet whose head and count are right.
-pub fn check_words(f: Format, sheet: &[u32]) -> Answer
+pub fn check_words(f: Format, sheet: &[u32]) -> Result<(), Refusal>
     requires { ValidShape f sheet.now }
-    ensures { returned result ≡ answered (check.contents f sheet.now ∷ []) (accept_with (length sheet.now)) }
+    ensures { returned result ≡ answered (check.contents f sheet.now ∷ []) accept }
 {
-    let n = words::blocks(sheet[0]) as usize;
-    if any_faulty(f, n, sheet) {
-        return first_faulty(f, n, sheet);
+    let last = sheet.len() - 1;
+    match first_faulty(f, &sheet[1..last]) {
+        Some(k) => Err(body_refusal(f, sheet[1 + k], 1 + k)),
+        None => check_end(words::blocks(sheet[0]) as usize, sheet[last], last),
     }
-    Answer::Accepted(sheet.len())
 }
 
 // The whole check, of a job that asks for nothing else.
-pub fn check_sheet(f: Format, sheet: &[u32]) -> Answer
-    ensures { returned result ≡ answered (check.check_causes f sheet.now) (accept_with (length sheet.now)) }
+pub fn check_sheet(f: Format, sheet: &[u32]) -> Result<(), Refusal>
+    ensures { returned result ≡ answered (check.check_causes f sheet.now) accept }
 {
-    let shape = check_shape(f, sheet);
-    if number(shape) != 0 {
-        return shape;
-    }
+    check_shape(f, sheet)?;
     check_words(f, sheet)
 }

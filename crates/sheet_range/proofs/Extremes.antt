@@ -1,13 +1,15 @@
 -- The least and the greatest value of words: what they are, and how the loops along a block and along the sheet keep them. Both are what is picked by an
 -- order, for which the laws are stated.
-use Rattle.std.specs.Prelude.{◌≡◌, ◌+◌, ◌-◌, ◌*◌, ◌^◌, ◌≤◌, ◌<◌}
+use Rattle.std.specs.Prelude.{◌≡◌, ◌+◌, ◌-◌, ◌*◌, ◌/◌, ◌^◌, ◌≤◌, ◌<◌}
 use Rattle.integers.specs.Kit.{refl, ap, ap₂, ◌∙◌, Bool, true, false, cond, List, ℕ, zero, suc, lit<, lit≤, ℤ, nat_abs, length}
 use native.Mathlib.Nat.{lt_of_le_of_lt}
 use native.Mathlib.Decide.{dec_lt}
 use native.Mathlib.Omega.{arith}
+use Rattle.std.proofs.lemmas.Int.{ints}
 use lib.Ieee.{Float}
 use lib.Signed.{lt_z}
 use mir.Syntax.{w32}
+use Rattle.std.specs.Int.{int_max}
 use Rattle.integers.proofs.Foremost as order
 use Rattle.integers.proofs.Foremost.{Order, irreflexive, not_before}
 use Rattle.integers.proofs.Signed.{in32, kept}
@@ -31,6 +33,16 @@ by_higher = order.higher-first (λ z. z)
 -- of x and y the one that comes first, and x where neither does
 abbrev pub pick : (ℤ → ℤ → Bool) → ℤ → ℤ → ℤ
 pick before x y = cond (before y x) y x
+
+-- the greater of two is the one that comes first, or both are it
+greater : (x y : ℤ) → int_max x y ≡ pick (λ y z. lt_z z y) x y
+greater x y = go (lt_z y x) (lt_z x y) refl refl
+  where
+    go : (t u : Bool) → lt_z y x ≡ t → lt_z x y ≡ u → cond t x y ≡ cond u y x
+    go true true e g = let no = by_lower.asymmetric y x e in absurd (cc)
+    go true false e g = refl
+    go false true e g = refl
+    go false false e g = omega (arith, ints)
 
 module _ {before : ℤ → ℤ → Bool} (O : Order before) where
   pick_assoc : (x y z : ℤ) → pick before (pick before x y) z ≡ pick before x (pick before y z)
@@ -132,12 +144,16 @@ module _ {before : ℤ → ℤ → Bool} (O : Order before) {words : List ℕ} {
   pub block-extreme : a + places ≤ i → v ≡ extreme before words a (places - 1)
   block-extreme e = let all : R.behind ≡ places - 1 = omega (arith, R.here, R.room) in rw all at R.is
 
--- along the sheet: x is the float of the extreme of the first block and `more` others, before word i
+pub value_next_higher : {words : List ℕ} {a i : ℕ} {v : ℤ} → BlockExtreme (λ y z. lt_z z y) words a i v → i < a + places → {z r : ℤ} → z ≡ value_at words i
+    → r ≡ int_max v (in32 z) → BlockExtreme (λ y z. lt_z z y) words a (i + 1) (in32 r)
+value_next_higher {v} R m {z} e f = value_next by_higher R m e (f ∙ greater v (in32 z))
 
-pub record SheetExtreme (before : ℤ → ℤ → Bool) (words : List ℕ) (i : ℕ) (x : Float) : Type 0 where
+-- along the sheet: x is the float of the extreme of the first block and `more` others, which are k
+
+pub record SheetExtreme (before : ℤ → ℤ → Bool) (words : List ℕ) (k : ℕ) (x : Float) : Type 0 where
   pub right : ValidSheet coefficient_format words
   pub more : ℕ
-  pub here : i ≡ 1 + places * suc more
+  pub here : k ≡ suc more
   pub room : more < blocks words
   pub is : x ≡ coefficient_float (extreme before words 1 (places - 1 + places * more))
 
@@ -158,46 +174,46 @@ module _ {words : List ℕ} (S : ValidSheet coefficient_format words) where
   pub extreme_digits : {before : ℤ → ℤ → Bool} → Order before → (a n : ℕ) → 1 ≤ a → suc (a + n) < length words → nat_abs (extreme before words a n) < exact_limit
   extreme_digits O a n h l = picked_has O (value_at words) (λ z. nat_abs z < exact_limit) a n (λ j g k. in_digits j (omega arith) (omega arith))
 
-  pub float_first : {before : ℤ → ℤ → Bool} {x : Float} → x ≡ coefficient_float (extreme before words 1 (places - 1)) → SheetExtreme before words (1 + places) x
+  pub float_first : {before : ℤ → ℤ → Bool} {x : Float} → x ≡ coefficient_float (extreme before words 1 (places - 1)) → SheetExtreme before words 1 x
   float_first e = record { right = S; more = 0; here = refl; room = some_blocks S.valid_shape; is = e }
 
-module _ {before : ℤ → ℤ → Bool} (O : Order before) {words : List ℕ} {i : ℕ} {x : Float} (F : SheetExtreme before words i x) where
+module _ {before : ℤ → ℤ → Bool} (O : Order before) {words : List ℕ} {k : ℕ} {x : Float} (F : SheetExtreme before words k x) where
   count : length words ≡ 2 + places * blocks words
   count = F.right.valid_shape.count
 
   -- past the last block
-  pub sheet-extreme : length words - 1 ≤ i → x ≡ coefficient_float (extreme before words 1 (length words - 3))
+  pub sheet-extreme : length words / places ≤ k → x ≡ coefficient_float (extreme before words 1 (length words - 3))
   sheet-extreme l =
       let done : places - 1 + places * F.more ≡ length words - 3 = omega (arith, F.here, F.room, count) in
       rw done at F.is
 
-  module _ (l : i < length words - 1) where
+  module _ (l : k < length words / places) where
     more_blocks : suc F.more < blocks words
     more_blocks = omega (arith, F.here, count)
 
-    pub next_body : InBody words i
-    next_body = record { right = F.right; from = omega (arith, F.here); room = omega (arith, F.here, more_blocks, count) }
+    pub next_body : InBody words (1 + places * k)
+    next_body = record { right = F.right; from = omega arith; room = omega (arith, F.here, more_blocks, count) }
 
-    -- the extremes before word i, and of the block there, have few digits
-    pub both_digits : (nat_abs (extreme before words 1 (places - 1 + places * F.more)) < exact_limit) × (nat_abs (extreme before words i (places - 1)) < exact_limit)
+    -- the extremes before block k, and of it, have few digits
+    pub both_digits : (nat_abs (extreme before words 1 (places - 1 + places * F.more)) < exact_limit) × (nat_abs (extreme before words (1 + places * k) (places - 1)) < exact_limit)
     both_digits =
-        let k = next_body.room in (
+        let room = next_body.room in (
           extreme_digits F.right O 1 (places - 1 + places * F.more) (lit≤ tt) (omega (arith, F.here)),
-          extreme_digits F.right O i (places - 1) next_body.from (omega arith),
+          extreme_digits F.right O (1 + places * k) (places - 1) next_body.from (omega arith),
         )
 
     -- y is the float of the block's, and t says whether it comes first
-    pub float_next : {y : Float} {t : Bool} → y ≡ coefficient_float (extreme before words i (places - 1))
-        → t ≡ before (extreme before words i (places - 1)) (extreme before words 1 (places - 1 + places * F.more))
-        → SheetExtreme before words (i + places) (cond t y x)
+    pub float_next : {y : Float} {t : Bool} → y ≡ coefficient_float (extreme before words (1 + places * k) (places - 1))
+        → t ≡ before (extreme before words (1 + places * k) (places - 1)) (extreme before words 1 (places - 1 + places * F.more))
+        → SheetExtreme before words (k + 1) (cond t y x)
     float_next e g =
         let n = places - 1 + places * F.more in
-        let a : 1 + suc n ≡ i = omega (arith, F.here) in
+        let a : 1 + suc n ≡ 1 + places * k = omega (arith, F.here) in
         let m : n + suc (places - 1) ≡ places - 1 + places * suc F.more = omega arith in
         record {
           right = F.right;
           more = suc F.more;
           here = omega (arith, F.here);
           room = more_blocks;
-          is = rw (e, F.is, g, of_one _ (extreme before words i (places - 1)) (extreme before words 1 n), ← a, ← m, picked_joined O (value_at words) 1 n (places - 1));
+          is = rw (e, F.is, g, of_one _ (extreme before words (1 + places * k) (places - 1)) (extreme before words 1 n), ← a, ← m, picked_joined O (value_at words) 1 n (places - 1));
         }

@@ -1,7 +1,8 @@
 -- The job `sheet_range` (02, request 4), for any words.
-use Rattle.std.specs.Prelude.{◌+◌, ◌-◌, Float}
+use Rattle.std.specs.Prelude.{◌+◌, ◌-◌, Float, Result, Ok, Err}
 use Rattle.integers.specs.Kit.{cond, List, ℕ, zero, suc, ℤ, length}
 use Rattle.std.specs.Int.Signed.{lt_z}
+use Rattle.answers.specs.declared.Refusal.{Refusal}
 use Rattle.answers.specs.Answer.{accept}
 use Rattle.answers.specs.Job.{Job}
 use Rattle.floats.specs.Fraction.{coefficient_float, plus_zero}
@@ -37,11 +38,20 @@ lowest_float words = coefficient_float (least (value_at words) 1 (length words -
 abbrev pub highest_float : List ℕ → Float
 highest_float words = coefficient_float (greatest (value_at words) 1 (length words - 3))
 
--- "A coefficient sheet is checked as 01 checks a sample sheet"; it gives both as one pair, and of a refused call "plus zero"
+-- of a refused call "plus zero"
+abbrev pub no_range : Range
+no_range = record { lowest = plus_zero; highest = plus_zero }
+
+-- "A coefficient sheet is checked as 01 checks a sample sheet"; it gives both as one pair
 abbrev pub range_job : List ℕ → Job Range
 range_job words = record {
   causes = check_causes coefficient_format words;
   end = accept;
   result = record { lowest = lowest_float words; highest = highest_float words };
-  was = record { lowest = plus_zero; highest = plus_zero };
+  was = no_range;
 }
+
+-- the pair that a call gives
+abbrev pub range_given : Result Range Refusal → Range
+range_given (Ok r) = r
+range_given (Err e) = no_range

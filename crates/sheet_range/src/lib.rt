@@ -1,6 +1,6 @@
 // The lowest and the highest float of a coefficient sheet, for the viewer (02, request 4).
 //
-// `sheet_range` takes any words. It looks at all of them before it answers: a refused sheet gives no float but plus zero, and names the first cause.
+// `sheet_range` takes any words. It looks at all of them before it answers: a refused sheet gives no float, and names the first cause.
 #![tactic(auto)]
 
 ghost use Rattle.std.specs.Prelude.{◌≡◌, ◌-◌};
@@ -15,7 +15,7 @@ ghost use Rattle.sheet_checks.specs.Sheets.{ValidSheet};
 ghost use Rattle.sheet_range.specs.Preconditions.{InBody};
 ghost use Rattle.sheet_range.specs.SheetRange as spec;
 
-use answers::{Answer, number};
+use answers::Refusal;
 use floats::coefficient_float;
 use limits::PLACES;
 use sheet_checks::{COEFFICIENT_FORMAT, check_sheet};
@@ -28,11 +28,17 @@ pub struct Range {
     pub highest: f32,
 }
 
-// What `sheet_range` answers: why a sheet is refused or that it is accepted, and its range.
-#[derive(Clone, Copy)]
-pub struct RangeAnswer {
-    pub answer: Answer,
-    pub range: Range,
+impl Range {
+    // The least range that holds both.
+    fn hull(self, r: Range) -> Range
+        ensures lowest_value { result.lowest ≡ cond (lt r.lowest self.lowest) r.lowest self.lowest }
+        ensures highest_value { result.highest ≡ cond (lt self.highest r.highest) r.highest self.highest }
+    {
+        Range {
+            lowest: floats::lower(self.lowest, r.lowest),
+            highest: floats::higher(self.highest, r.highest),
+        }
+    }
 }
 
 // The range of the block whose first word is at index a. The loop compares whole numbers, so that the compiler takes several words at a time.
@@ -43,28 +49,14 @@ fn range_of_block(words: &[u32], a: usize) -> Range
 {
     let mut lowest = value(words[a]);
     let mut highest = lowest;
-    let end = a + PLACES;
-    let mut i = a + 1;
-    while i < end {
+    for i in a + 1..a + PLACES {
         let y = value(words[i]);
-        lowest = integers::lower(lowest, y);
-        highest = integers::higher(highest, y);
-        i += 1;
+        lowest = lowest.min(y);
+        highest = highest.max(y);
     }
     Range {
         lowest: coefficient_float(lowest),
         highest: coefficient_float(highest),
-    }
-}
-
-// The least range that holds both.
-fn hull(r: Range, s: Range) -> Range
-    ensures lowest_value { result.lowest ≡ cond (lt s.lowest r.lowest) s.lowest r.lowest }
-    ensures highest_value { result.highest ≡ cond (lt r.highest s.highest) s.highest r.highest }
-{
-    Range {
-        lowest: floats::lower(r.lowest, s.lowest),
-        highest: floats::higher(r.highest, s.highest),
     }
 }
 
@@ -75,33 +67,19 @@ fn range_of_sheet(words: &[u32]) -> Range
     ensures highest_value { result.highest ≡ spec.highest_float words.now }
 {
     let mut r = range_of_block(words, 1);
-    let last = words.len() - 1;
-    let mut i = 1 + PLACES;
-    while i < last {
-        r = hull(r, range_of_block(words, i));
-        i += PLACES;
+    // Head and end word are fewer than a block, so that what is left of the division is theirs.
+    for k in 1..words.len() / PLACES {
+        r = r.hull(range_of_block(words, 1 + PLACES * k));
     }
     r
 }
 
-// The lowest and the highest float of a coefficient sheet, or why it is refused; then both are plus zero.
-pub fn sheet_range(words: &[u32]) -> RangeAnswer
-    ensures answer_value { returned result.answer ≡ job_returned (spec.range_job words.now) }
-    ensures range_value { result.range ≡ job_left (spec.range_job words.now) }
+// The lowest and the highest float of a coefficient sheet, or why it is refused.
+pub fn sheet_range(words: &[u32]) -> Result<Range, Refusal>
+    ensures answer_value { returned result ≡ job_returned (spec.range_job words.now) }
+    ensures range_value { spec.range_given result ≡ job_left (spec.range_job words.now) }
     ensures words_kept { words.exit.now ≡ words.entry.now }
 {
-    let answer = check_sheet(COEFFICIENT_FORMAT, words);
-    if number(answer) != 0 {
-        return RangeAnswer {
-            answer,
-            range: Range {
-                lowest: 0.0,
-                highest: 0.0,
-            },
-        };
-    }
-    RangeAnswer {
-        answer: Answer::Accepted(0),
-        range: range_of_sheet(words),
-    }
+    check_sheet(COEFFICIENT_FORMAT, words)?;
+    Ok(range_of_sheet(words))
 }

@@ -2,24 +2,17 @@
 use Rattle.std.specs.Prelude.{◌≡◌, ◌+◌, ◌≤◌, ◌<◌, ◌-◌}
 use Rattle.integers.specs.Kit.{refl, sym, ap, subst, ◌∙◌, Bool, cond, List, ℕ, zero, suc, T, ltb, lit<, lit≤, ℤ, pos, negsuc, nat_abs}
 use native.Mathlib.Decide.{ℕ_discrete}
-use native.Mathlib.Nat.{lt_of_le_of_lt, lt_of_lt_of_le, not-suc-le-zero}
+use native.Mathlib.Nat.{lt_of_lt_of_le, not-suc-le-zero}
 use native.Mathlib.Omega.{arith}
-use mir.Syntax.{w32}
-use mir.Val.{to_z}
 use borrow.Author.Tests.{lt-ltb, le-ltb, ltb-false, ltb-true}
 use Rattle.integers.specs.Test.{eq_z}
 use Rattle.integers.proofs.Foremost.{Order, higher-first, Best, BestValue, range_best, foremost-first, is_foremost, best_value-first, best_value_next, best_value-foremost}
-use Rattle.integers.proofs.Signed.{kept}
 use Rattle.integers.proofs.Tests.{holds, fails, every-at, every_passes, eq_z→≡}
-use Rattle.limits.specs.Limits.{places, coefficient_limit}
+use Rattle.limits.specs.Limits.{places}
 use Rattle.floats.specs.Fraction.{coefficient_float, mean_grey}
 use Rattle.summary.specs.declared.Grey.TheVariants.{Flat, Textured}
 use Rattle.summary.specs.Summary.{LargestOther, given, magnitude_at, is_flat, larger, largest_place, block_summary}
 use Rattle.to_floats.specs.ToFloats.{coefficient_at}
-
--- a magnitude within the limit, as an i32 holds it
-pub held : (m : ℕ) → m ≤ coefficient_limit → to_z w32 m ≡ pos m
-held m h = kept w32 (pos m) (lt_of_le_of_lt h (lit< tt))
 
 zero_magnitude : (z : ℤ) → nat_abs z ≤ 0 → z ≡ pos 0
 zero_magnitude (pos n) h = ap pos (omega arith)

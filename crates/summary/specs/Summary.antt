@@ -1,10 +1,11 @@
 -- The job `summary` (02, request 4), for any numbers and any buffer.
-use Rattle.std.specs.Prelude.{◌≤◌, ◌<◌, ◌-◌, Float}
+use Rattle.std.specs.Prelude.{◌≤◌, ◌<◌, ◌-◌, Float, Result, Ok, Err}
 use Rattle.integers.specs.Kit.{Bool, cond, List, ℕ, suc, ltb, ℤ, pos, nat_abs}
 use Rattle.integers.specs.Search.{foremost}
 use Rattle.integers.specs.Test.{every, eq_z}
 use Rattle.limits.specs.Limits.{places}
 use Rattle.answers.specs.Answer.{accept}
+use Rattle.answers.specs.declared.Refusal.{Refusal}
 use Rattle.answers.specs.Job.{Job}
 use Rattle.floats.specs.Fraction.{coefficient_float, mean_grey, plus_zero}
 use Rattle.to_floats.specs.ToFloats.{block_causes, coefficient_at}
@@ -22,6 +23,15 @@ pub record Given : Type 0 where
 abbrev pub given : Grey → Given
 given (Flat m) = record { textured = 0; mean = m; largest = plus_zero }
 given (Textured m l) = record { textured = 1; mean = m; largest = l }
+
+-- what a refused call gives: "any float beside them is plus zero"
+abbrev pub zeros : Given
+zeros = given (Flat plus_zero)
+
+-- that of a call
+abbrev pub given_or_zeros : Result Grey Refusal → Given
+given_or_zeros (Ok g) = given g
+given_or_zeros (Err e) = zeros
 
 -- the magnitude of coefficient p
 abbrev pub magnitude_at : List ℤ → ℕ → ℕ
@@ -56,4 +66,4 @@ block_summary y =
 
 -- it gives this; "A refused call gives its number and place, and any float beside them is plus zero"
 abbrev pub summary_job : List ℤ → Job Given
-summary_job y = record { causes = block_causes y; end = accept; result = block_summary y; was = given (Flat plus_zero) }
+summary_job y = record { causes = block_causes y; end = accept; result = block_summary y; was = zeros }

@@ -4,7 +4,7 @@
 // refusal included; the program only reads, calls it and writes.
 #![tactic(auto)]
 
-ghost use Rattle.std.specs.Prelude.{◌≡◌, ◌*◌, ◌≤◌, ◌<◌};
+ghost use Rattle.std.specs.Prelude.{◌≡◌, ◌*◌, ◌≤◌};
 ghost use Rattle.integers.specs.Kit.{length, take};
 ghost use Rattle.io.specs.Counts.{IsPrefixLen};
 ghost use Rattle.integers.specs.Table.{over};
@@ -12,37 +12,25 @@ ghost use Rattle.sheet_bytes.specs.Program.{input_limit};
 ghost use Rattle.transform_bytes.specs.Output as spec;
 ghost use Rattle.transform_bytes.specs.Output.{output_bytes};
 
-use answers::{number, place};
 use sheet_bytes::{WORDS_LIMIT, refusal, transform_input};
 
 // The bytes of the largest sheet, which are the most that the program writes.
 pub const OUTPUT_LIMIT: usize = 4 * WORDS_LIMIT;
 
-// Byte i of a word, of which byte 0 is the most significant.
-fn byte_of(w: u32, i: usize) -> u8
-    requires { i < 4 }
-    ensures { result ≡ spec.byte_of w i }
-{
-    let shift = 24 - 8 * i as u32;
-    ((w >> shift) % 256) as u8
-}
-
-// The bytes of some words, at the start of `output`, and how many there are.
+// The bytes of some words, of each the most significant first, at the start of `output`, and how many there are.
 fn store(words: &[u32], output: &mut [u8]) -> usize
     requires { 4 * length words.now ≤ length output.old }
     ensures value { result ≡ 4 * length words.now }
     ensures output_after { output.new ≡ over (spec.bytes_of words.now) output.old }
 {
-    let n = 4 * words.len();
-    let mut i = 0;
-    while i < n {
-        output[i] = byte_of(words[i / 4], i % 4);
-        i += 1;
+    for (k, w) in words.iter().enumerate() {
+        output[4 * k..4 * k + 4].copy_from_slice(&w.to_be_bytes());
     }
-    n
+    4 * words.len()
 }
 
 // The bytes that the program writes for `input`, at the start of `output`, and how many there are.
+// Kept: a part of `output` as the result would be shorter, but then no clause could say that `output` is as it was beyond it.
 pub fn convert(input: &[u8], output: &mut [u8; OUTPUT_LIMIT]) -> usize
     ensures value { result ≡ length (output_bytes (take input_limit input.now)) }
     ensures output_after { output.new ≡ over (output_bytes (take input_limit input.now)) output.old }
@@ -50,11 +38,8 @@ pub fn convert(input: &[u8], output: &mut [u8; OUTPUT_LIMIT]) -> usize
     ensures input_kept { input.exit.now ≡ input.entry.now }
 {
     let mut made = [0u32; WORDS_LIMIT];
-    let answered = transform_input(input, &mut made);
-    let answer = answered.answer;
-    if number(answer) != 0 {
-        return refusal(answer, output);
+    match transform_input(input, &mut made) {
+        Ok(written) => store(&made[..written.words], output),
+        Err(r) => refusal(r, output),
     }
-    let n = place(answer);
-    store(&made[..n], output)
 }

@@ -25,7 +25,7 @@ ghost use Rattle.sheet.specs.Sheet.{sheet_job};
 ghost use Rattle.forward.specs.Forward.{forward_job};
 ghost use Rattle.weld_dct.specs.Returned.{given_by, number_and_place};
 
-use answers::{Answer, number, place};
+use answers::Refusal;
 
 // What the functions return, three of them with sums or floats beside it: 0 for an accepted call, and the number of the refusal otherwise; and the
 // place.
@@ -36,15 +36,39 @@ pub struct Returned {
     place: usize,
 }
 
-// The papers' number and place of an answer.
-fn numbered(a: Answer) -> Returned
-    ensures { number_and_place result ≡ returned a }
-{
-    Returned {
-        number: number(a),
-        place: place(a),
+impl From<Refusal> for Returned {
+    ghost use Rattle.answers.specs.Answer.{refused};
+    ghost use Rattle.weld_dct.specs.Returned.{number_and_place};
+
+    ghost from_gives = { λ e r. number_and_place r ≡ refused e };
+
+    fn from(refusal: Refusal) -> Self {
+        Returned {
+            number: refusal.number(),
+            place: refusal.place(),
+        }
     }
 }
+
+// What a job answers: an accepted call returns 0 and place 0.
+impl From<Result<(), Refusal>> for Returned {
+    ghost use Rattle.answers.specs.Answer.{returned};
+    ghost use Rattle.weld_dct.specs.Returned.{number_and_place};
+
+    ghost from_gives = { λ a r. number_and_place r ≡ returned a };
+
+    fn from(answer: Result<(), Refusal>) -> Self {
+        match answer {
+            Ok(()) => Returned {
+                number: 0,
+                place: 0,
+            },
+            Err(refusal) => refusal.into(),
+        }
+    }
+}
+
+// Kept: numbers for b, orientations and `textured`, zeros beside a refusal, and one function for each job: the C interface.
 
 // The exact elements of a block.
 #[unsafe(no_mangle)]
@@ -53,7 +77,7 @@ pub extern "C" fn weld_dct_forward(samples: &[i32], elements: &mut [i32]) -> Ret
     ensures elements_after { elements.new ≡ job_left (forward_job 2 samples.now elements.old) }
     ensures samples_kept { samples.exit.now ≡ samples.entry.now }
 {
-    numbered(forward::forward(samples, elements))
+    forward::forward(samples, elements).into()
 }
 
 // The block that has these elements.
@@ -63,7 +87,7 @@ pub extern "C" fn weld_dct_back(elements: &[i32], samples: &mut [i32]) -> Return
     ensures samples_after { samples.new ≡ job_left (back_job 2 elements.now samples.old) }
     ensures elements_kept { elements.exit.now ≡ elements.entry.now }
 {
-    numbered(back::back(elements, samples))
+    back::back(elements, samples).into()
 }
 
 // The coefficients of 64 elements at the width b.
@@ -74,7 +98,7 @@ pub extern "C" fn weld_dct_round(elements: &[i32], b: u32, coefficients: &mut [i
     ensures all_near { T (accepted (number_and_place result)) → AllNear 2 elements.now b coefficients.new }
     ensures elements_kept { elements.exit.now ≡ elements.entry.now }
 {
-    numbered(round::round(elements, b, coefficients))
+    round::round(elements, b, coefficients).into()
 }
 
 // What weld_dct_sheet returns: the number and place, which lie as if they were fields of its own, and both sums.
@@ -101,12 +125,20 @@ pub extern "C" fn weld_dct_sheet(
     ensures output_after { output.new ≡ (job_left (sheet_job element_scratch words.now b scratch.old output.old)).output }
     ensures words_kept { words.exit.now ≡ words.entry.now }
 {
-    let answered = sheet::sheet(words, b, scratch, output);
-    let answer = answered.answer;
-    SheetReturned {
-        returned: numbered(answer),
-        samples: answered.totals.samples,
-        firsts: answered.totals.firsts,
+    match sheet::sheet(words, b, scratch, output) {
+        Ok(written) => SheetReturned {
+            returned: Returned {
+                number: 0,
+                place: written.words,
+            },
+            samples: written.totals.samples,
+            firsts: written.totals.firsts,
+        },
+        Err(refusal) => SheetReturned {
+            returned: refusal.into(),
+            samples: 0,
+            firsts: 0,
+        },
     }
 }
 
@@ -121,7 +153,7 @@ pub extern "C" fn weld_dct_reorient(
     ensures output_after { output.new ≡ job_left (reorient_job elements.now orientation output.old) }
     ensures elements_kept { elements.exit.now ≡ elements.entry.now }
 {
-    numbered(reorient::reorient(elements, orientation, output))
+    reorient::reorient(elements, orientation, output).into()
 }
 
 // The orientation that `second` after `first` is, returned as the place.
@@ -129,7 +161,10 @@ pub extern "C" fn weld_dct_reorient(
 pub extern "C" fn weld_dct_compose_orientations(first: u32, second: u32) -> Returned
     ensures { number_and_place result ≡ job_returned (compose_job first second) }
 {
-    numbered(reorient::compose_orientations(first, second))
+    match reorient::compose_orientations(first, second) {
+        Ok(place) => Returned { number: 0, place },
+        Err(refusal) => refusal.into(),
+    }
 }
 
 // The quantized values of 64 coefficients.
@@ -144,7 +179,7 @@ pub extern "C" fn weld_dct_quantize(
     ensures coefficients_kept { coefficients.exit.now ≡ coefficients.entry.now }
     ensures steps_kept { steps.exit.now ≡ steps.entry.now }
 {
-    numbered(quantize::quantize(coefficients, steps, quantized))
+    quantize::quantize(coefficients, steps, quantized).into()
 }
 
 // The coefficients that 64 quantized values stand for.
@@ -159,7 +194,7 @@ pub extern "C" fn weld_dct_dequantize(
     ensures quantized_kept { quantized.exit.now ≡ quantized.entry.now }
     ensures steps_kept { steps.exit.now ≡ steps.entry.now }
 {
-    numbered(dequantize::dequantize(quantized, steps, coefficients))
+    dequantize::dequantize(quantized, steps, coefficients).into()
 }
 
 // 64 coefficients as floats.
@@ -169,7 +204,7 @@ pub extern "C" fn weld_dct_to_floats(coefficients: &[i32], floats: &mut [f32]) -
     ensures floats_after { floats.new ≡ job_left (to_floats_job coefficients.now floats.old) }
     ensures coefficients_kept { coefficients.exit.now ≡ coefficients.entry.now }
 {
-    numbered(to_floats::to_floats(coefficients, floats))
+    to_floats::to_floats(coefficients, floats).into()
 }
 
 // What weld_dct_summary returns: the number and place, likewise, 1 for a textured block, and the floats.
@@ -189,14 +224,19 @@ pub extern "C" fn weld_dct_summary(coefficients: &[i32]) -> SummaryReturned
     ensures result_value { given_by result ≡ job_left (summary_job coefficients.now) }
     ensures coefficients_kept { coefficients.exit.now ≡ coefficients.entry.now }
 {
-    let summary = summary::summary(coefficients);
-    let answer = summary.answer;
-    let grey = summary.grey;
-    SummaryReturned {
-        returned: numbered(answer),
-        textured: summary::textured(grey),
-        mean: summary::mean(grey),
-        largest: summary::largest(grey),
+    match summary::summary(coefficients) {
+        Ok(grey) => SummaryReturned {
+            returned: Ok(()).into(),
+            textured: grey.textured(),
+            mean: grey.mean(),
+            largest: grey.largest(),
+        },
+        Err(refusal) => SummaryReturned {
+            returned: refusal.into(),
+            textured: 0,
+            mean: 0.0,
+            largest: 0.0,
+        },
     }
 }
 
@@ -217,11 +257,16 @@ pub extern "C" fn weld_dct_sheet_range(words: &[u32]) -> RangeReturned
     ensures highest_value { result.highest ≡ (job_left (range_job words.now)).highest }
     ensures words_kept { words.exit.now ≡ words.entry.now }
 {
-    let ranged = sheet_range::sheet_range(words);
-    let answer = ranged.answer;
-    RangeReturned {
-        returned: numbered(answer),
-        lowest: ranged.range.lowest,
-        highest: ranged.range.highest,
+    match sheet_range::sheet_range(words) {
+        Ok(range) => RangeReturned {
+            returned: Ok(()).into(),
+            lowest: range.lowest,
+            highest: range.highest,
+        },
+        Err(refusal) => RangeReturned {
+            returned: refusal.into(),
+            lowest: 0.0,
+            highest: 0.0,
+        },
     }
 }

@@ -2,6 +2,8 @@
 use Rattle.std.specs.Prelude.{◌+◌, ◌-◌, ◌*◌, ◌/◌, ◌%◌, ◌^◌, ◌-ℤ◌}
 use Rattle.integers.specs.Kit.{cond, ℕ, ltb, ℤ, pos, nat_abs}
 use Rattle.std.specs.Int.Signed.{lt_z}
+use Rattle.words.specs.declared.Kind.{Kind}
+use Rattle.words.specs.declared.Kind.TheVariants.{SampleHead, Sample, Coefficient, CoefficientHead, End}
 
 -- how many payloads there are
 abbrev pub payloads : ℕ
@@ -33,6 +35,14 @@ coefficient_head_kind = 4
 
 abbrev pub end_kind : ℕ
 end_kind = 15
+
+-- the number of a kind
+abbrev pub number : Kind → ℕ
+number SampleHead = sample_head_kind
+number Sample = sample_kind
+number Coefficient = coefficient_kind
+number CoefficientHead = coefficient_head_kind
+number End = end_kind
 
 -- "Values in payloads are 28-bit two's complement"
 

@@ -2,19 +2,18 @@
 #![tactic(auto)]
 
 ghost use Rattle.std.specs.Prelude.{◌≡◌, ◌*◌, ◌<◌};
-ghost use Rattle.integers.specs.Kit.{nat_abs};
+ghost use Rattle.integers.specs.Kit.{eqb, nat_abs};
 ghost use Rattle.words.specs.Word as words;
 
 // 01's table of kinds.
-pub const SAMPLE_HEAD: u32 = 1;
-
-pub const SAMPLE: u32 = 2;
-
-pub const COEFFICIENT: u32 = 3;
-
-pub const COEFFICIENT_HEAD: u32 = 4;
-
-pub const END: u32 = 15;
+#[derive(Clone, Copy, PartialEq, Eq)]
+pub enum Kind {
+    SampleHead = 1,
+    Sample = 2,
+    Coefficient = 3,
+    CoefficientHead = 4,
+    End = 15,
+}
 
 // How many payloads there are: 2^28.
 const PAYLOADS: u32 = 268435456;
@@ -28,11 +27,18 @@ const MODULUS: i32 = PAYLOADS as i32;
 // A size in a head has 14 bits.
 const SIZES: u32 = 16384;
 
-// The kind of a word.
-pub fn kind(w: u32) -> u32
+// The number of its kind, any of 16.
+pub fn kind_number(w: u32) -> u32
     ensures { result ≡ words.kind w }
 {
     w / PAYLOADS
+}
+
+// Whether a word is of a kind k.
+pub fn has_kind(w: u32, k: Kind) -> bool
+    ensures { result ≡ eqb (words.kind w) (words.number k) }
+{
+    kind_number(w) == k as u32
 }
 
 // Its payload.
@@ -52,19 +58,17 @@ pub fn value(w: u32) -> i32
 }
 
 // The word of a kind k and a payload p.
-pub fn with_payload(k: u32, p: u32) -> u32
-    requires k_bound { k < 16 }
-    requires p_lt_payloads { p < words.payloads }
-    ensures { result ≡ words.word k p }
+pub fn with_payload(k: Kind, p: u32) -> u32
+    requires { p < words.payloads }
+    ensures { result ≡ words.word (words.number k) p }
 {
-    k * PAYLOADS + p
+    k as u32 * PAYLOADS + p
 }
 
 // The word of a kind k and a value z.
-pub fn with_value(k: u32, z: i32) -> u32
-    requires k_bound { k < 16 }
-    requires z_bound { nat_abs z < words.value_limit }
-    ensures { result ≡ words.word k (words.payload_of z) }
+pub fn with_value(k: Kind, z: i32) -> u32
+    requires { nat_abs z < words.value_limit }
+    ensures { result ≡ words.word (words.number k) (words.payload_of z) }
 {
     if z < 0 {
         return with_payload(k, (z + MODULUS) as u32);

@@ -1,25 +1,48 @@
--- `back` meets its contract: the check decides, and past it the block is stored.
-use Rattle.integers.specs.Kit.{◌∙◌}
-use Rattle.answers.proofs.Jobs.{refused, is_accepted, done}
+-- The check refuses, or what the passes restore is compared, and stored where it is the block.
+use Rattle.std.specs.Prelude.{◌≡◌}
+use Rattle.integers.specs.Kit.{sym, ◌∙◌, length}
+use borrow.Author.Rules.{rules}
+use Rattle.limits.specs.Limits.{places}
+use Rattle.answers.specs.Answer.{returned}
+use Rattle.answers.specs.Answer as answers
+use Rattle.answers.proofs.Jobs.{done, refused}
 use Rattle.back.specs.Back.{back_job}
-use Rattle.back.proofs.Meaning.{accepted_means}
+use Rattle.back.proofs.Causes.{found_block, no_block}
 use Rattle.back.proofs.back.Goals as goal
 
-pub returns-then-number-ne0-clause-samples_after : goal.returns-then-number-ne0-clause-samples_after
-returns-then-number-ne0-clause-samples_after c =
-    let job = back_job 2 c.args.elements.now c.args.samples.now in
-    refused job c.check-found.ensures.answer_value c.number.ensures c.if-number-ne0.true
+pub returns-in_err-check-clause-result_value : goal.returns-in_err-check-clause-result_value
+returns-in_err-check-clause-result_value c =
+    let passed : returned c.from_residual.result ≡ answers.refused c.in_err-check.field-0.0 = search rules in
+    passed ∙ c.in_err-check.ensures
 
-pub store-requires : goal.store-requires
-store-requires c =
-    let e = c.args.elements.now in
-    let samples = c.args.samples.now in
-    (accepted_means 1 e samples (is_accepted (back_job 2 e samples) c.check-found.ensures.answer_value c.number.ensures c.if-number-ne0.false)).1
+pub returns-in_err-check-clause-samples_after : goal.returns-in_err-check-clause-samples_after
+returns-in_err-check-clause-samples_after c = refused (back_job 2 c.args.elements.now c.args.samples.now) _ c.in_err-check.ensures
+
+pub returns-then-not-is_block_of-clause-result_value : goal.returns-then-not-is_block_of-clause-result_value
+returns-then-not-is_block_of-clause-result_value c =
+    let (limited, room) = c.in_ok-check.ensures in
+    (no_block _ _ limited.size room c.is_block_of.ensures c.restored-block.ensures c.refusal.ensures c.if-not-is_block_of.true).0
+
+pub returns-then-not-is_block_of-clause-samples_after : goal.returns-then-not-is_block_of-clause-samples_after
+returns-then-not-is_block_of-clause-samples_after c =
+    let (limited, room) = c.in_ok-check.ensures in
+    let said = (no_block _ _ limited.size room c.is_block_of.ensures c.restored-block.ensures c.refusal.ensures c.if-not-is_block_of.true).0 in
+    refused (back_job 2 c.args.elements.now c.args.samples.now) _ said
+
+pub copy_from_slice-requires : goal.copy_from_slice-requires
+copy_from_slice-requires c =
+    let size : length c.restored-block.result ≡ places = search rules in
+    c.in_ok-check.ensures.1 ∙ sym size
+
+pub returns-clause-result_value : goal.returns-clause-result_value
+returns-clause-result_value c =
+    let (limited, room) = c.in_ok-check.ensures in
+    let size : length c.restored-block.result ≡ places = search rules in
+    (found_block _ _ limited.size room c.is_block_of.ensures size c.if-not-is_block_of.false).0
 
 pub returns-clause-samples_after : goal.returns-clause-samples_after
 returns-clause-samples_after c =
-    let made = c.check-found.ensures in
-    let job = back_job 2 c.args.elements.now c.args.samples.now in
-    let zero = c.if-number-ne0.false in
-    let accepted = is_accepted job made.answer_value c.number.ensures zero in
-    done job made.answer_value c.number.ensures zero (c.store.ensures ∙ made.block_value (rw made.answer_value accepted))
+    let (limited, room) = c.in_ok-check.ensures in
+    let size : length c.restored-block.result ≡ places = search rules in
+    let (said, block) = found_block _ _ limited.size room c.is_block_of.ensures size c.if-not-is_block_of.false in
+    done (back_job 2 c.args.elements.now c.args.samples.now) _ said (c.copy_from_slice.ensures.after ∙ block)

@@ -1,47 +1,40 @@
--- `check` meets its contract: each way out is a law of causes.
-use Rattle.std.specs.Prelude.{◌≡◌}
-use Rattle.integers.specs.Kit.{sym, ap, ◌∙◌, not, pos, length, get_or}
+-- A buffer is of another length, or a number is above the limit, and then its element is; or neither.
+use Rattle.std.specs.Prelude.{◌≡◌, Err}
 use borrow.Author.Rules.{rules}
+use Rattle.integers.specs.Kit.{sym, ◌∙◌, pos, get_or}
 use Rattle.integers.proofs.Ranges.{within_limit}
 use Rattle.integers.proofs.Search.{any_none}
-use Rattle.limits.specs.Limits.{places, magnitudes_limit}
-use Rattle.answers.specs.Answer.{holds, passes}
-use Rattle.answers.proofs.Causes.{only_reason, right_length, wrong_length}
+use Rattle.limits.specs.Limits.{magnitudes_limit}
+use Rattle.answers.proofs.Causes.{sized_accepted, sized_is, sized_refused}
 use Rattle.back_passes.specs.Passes.{read_size}
-use Rattle.back.proofs.Causes.{too_large, no_block, found_block}
+use Rattle.back.proofs.Causes.{length-read, read_any, too_large}
 use Rattle.back.proofs.check.Goals as goal
 
-pub returns-then-elements-ne-COMPONENTS-clause-answer_value : goal.returns-then-elements-ne-COMPONENTS-clause-answer_value
-returns-then-elements-ne-COMPONENTS-clause-answer_value c = rw c.refused.ensures (only_reason (holds (wrong_length c.if-elements-ne-COMPONENTS.true)))
+pub returns-in_err-sized : goal.returns-in_err-sized
+returns-in_err-sized c =
+    let passed : c.from_residual.result ≡ Err c.in_err-sized.field-0.0 = search rules in
+    rw passed (sized_refused _ _ _ _ _ c.in_err-sized.ensures)
 
-pub returns-then-room-ne-PLACES-clause-answer_value : goal.returns-then-room-ne-PLACES-clause-answer_value
-returns-then-room-ne-PLACES-clause-answer_value c =
-    rw c.refused-then-room-ne-PLACES.ensures (only_reason (passes (right_length c.if-elements-ne-COMPONENTS.false) (holds (wrong_length c.if-room-ne-PLACES.true))))
+pub returns-in_err-sized-2 : goal.returns-in_err-sized-2
+returns-in_err-sized-2 c =
+    let passed : c.from_residual-in_err-sized-2.result ≡ Err c.in_err-sized-2.field-0.0 = search rules in
+    rw passed (sized_accepted _ _ _ _ _ c.in_ok-sized.ensures (sized_refused _ _ _ _ _ c.in_err-sized-2.ensures))
 
-pub returns-then-any_outside : goal.returns-then-any_outside
-returns-then-any_outside c =
-    let refused = c.refused-then-any_outside in
-    let any = sym c.any_outside.ensures ∙ c.if-any_outside.true in
-    let ends = too_large _ _ c.if-elements-ne-COMPONENTS.false c.if-room-ne-PLACES.false {y = refused.result.block} c.refusal.ensures any in
-    record { answer_value = rw refused.ensures ends.0; block_value = rw refused.ensures ends.1 }
+pub slice_bounds-first_outside-end : goal.slice_bounds-first_outside-end
+slice_bounds-first_outside-end c = sym (length-read c.args.elements.now (sized_is _ _ c.in_ok-sized.ensures))
 
-pub restored-block-requires : goal.restored-block-requires
-restored-block-requires c =
+pub refusal-requires : goal.refusal-requires
+refusal-requires c = sized_is _ _ c.in_ok-sized.ensures
+
+pub returns-then-is_some : goal.returns-then-is_some
+returns-then-is_some c =
+    let size = sized_is _ _ c.in_ok-sized.ensures in
+    let any = sym (c.is_some.ensures ∙ read_any c.args.elements.now size c.first_outside.ensures) ∙ c.if-is_some.true in
+    (too_large _ _ size (sized_is _ _ c.in_ok-sized-2.ensures) c.refusal.ensures any).0
+
+pub returns-else-is_some : goal.returns-else-is_some
+returns-else-is_some c =
     let e = c.args.elements.now in
-    let none = any_none read_size _ (sym c.any_outside.ensures ∙ c.if-any_outside.false) in
-    record { size = c.if-elements-ne-COMPONENTS.false; in_limit = λ i h. within_limit magnitudes_limit (get_or e i (pos 0)) (none i h) }
-
-pub returns-then-not-is_block_of : goal.returns-then-not-is_block_of
-returns-then-not-is_block_of c =
-    let refused = c.refused-then-not-is_block_of in
-    let ends =
-    no_block _ _ c.if-elements-ne-COMPONENTS.false c.if-room-ne-PLACES.false c.is_block_of.ensures c.restored-block.ensures {z = refused.result.block}
-    c.refusal-then-not-is_block_of.ensures (ap not c.if-not-is_block_of.true) in
-    record { answer_value = rw refused.ensures ends.0; block_value = rw refused.ensures ends.1 }
-
-pub returns : goal.returns
-returns c =
-    let size : length c.restored-block.result ≡ places = search rules in
-    let (said, block) =
-    found_block _ _ c.if-elements-ne-COMPONENTS.false c.if-room-ne-PLACES.false c.is_block_of.ensures size (ap not c.if-not-is_block_of.false) in
-    record { answer_value = said; block_value = block }
+    let size = sized_is _ _ c.in_ok-sized.ensures in
+    let none = any_none read_size _ (sym (c.is_some.ensures ∙ read_any e size c.first_outside.ensures) ∙ c.if-is_some.false) in
+    (record { size = size; in_limit = λ i h. within_limit magnitudes_limit (get_or e i (pos 0)) (none i h) }, sized_is _ _ c.in_ok-sized-2.ensures)

@@ -1,21 +1,19 @@
--- `is_block_of` meets its contract: what forward says of the block, and what it makes of it.
+-- Forward refuses the block, or what it makes of it is compared.
 use Rattle.integers.specs.Kit.{sym, ap, ◌∙◌, pos, replicate}
 use lib.ListN.{length-replicate}
-use borrow.Author.Rules.{rules}
 use Rattle.integers.specs.Test.{eq_list}
-use Rattle.back.proofs.Comparison.{forward_refuses, forward_accepts}
+use Rattle.answers.specs.Answer.{accepted}
+use Rattle.back.proofs.Comparison.{accepts_ok, compared, forward_accepts, forward_refuses}
 use Rattle.back.proofs.is_block_of.Goals as goal
 
-pub returns-then-number-ne0 : goal.returns-then-number-ne0
-returns-then-number-ne0 c =
-    let number = c.number.ensures ∙ ap (λ r. r.number) c.forward.ensures.result_value in
-    forward_refuses 2 c.args.block c.args.elements.now (replicate 512 (pos 0)) (search rules) (length-replicate 512 (pos 0))
-    (λ e. c.if-number-ne0.true (number ∙ e))
-
-pub returns : goal.returns
-returns c =
+pub returns-then-is_ok : goal.returns-then-is_ok
+returns-then-is_ok c =
     let forward = c.forward.ensures in
     let e = c.args.elements.now in
-    let number = c.number.ensures ∙ ap (λ r. r.number) forward.result_value in
-    c.same.ensures ∙ ap (λ l. eq_list l e) forward.elements_after
-    ∙ forward_accepts 2 c.args.block e (replicate 512 (pos 0)) (sym number ∙ c.if-number-ne0.false)
+    let yes = ap accepted (sym forward.result_value) ∙ accepts_ok c.forward.result ∙ sym c.is_ok.ensures.value ∙ c.if-is_ok.true in
+    compared c.forward.new.elements e c.eq.ensures ∙ ap (λ l. eq_list l e) forward.elements_after ∙ forward_accepts 2 c.args.block.now e (replicate 512 (pos 0)) yes
+
+pub returns-else-is_ok : goal.returns-else-is_ok
+returns-else-is_ok c =
+    let no = ap accepted (sym c.forward.ensures.result_value) ∙ accepts_ok c.forward.result ∙ sym c.is_ok.ensures.value ∙ c.if-is_ok.false in
+    c.if-is_ok.false ∙ forward_refuses 2 c.args.block.now c.args.elements.now (replicate 512 (pos 0)) c.told-block (length-replicate 512 (pos 0)) no

@@ -1,9 +1,9 @@
--- `refusal` meets its contract: the search decides.
-use Rattle.back.proofs.Causes.{search_finds, search_passes}
+-- The search decides.
+use Rattle.answers.proofs.Causes.{found_refused, no_more, none_found}
 use Rattle.back.proofs.refusal.Goals as goal
 
-pub returns-then-p-lt-PLACES : goal.returns-then-p-lt-PLACES
-returns-then-p-lt-PLACES c = search_finds _ c.first_above-p.ensures c.if-p-lt-PLACES.true
+pub returns-in-Some : goal.returns-in-Some
+returns-in-Some c = found_refused _ _ _ _ _ (rw c.requires at c.in-Some.ensures)
 
-pub returns : goal.returns
-returns c = search_passes _ c.first_above-p.ensures c.if-p-lt-PLACES.false
+pub returns-in-None : goal.returns-in-None
+returns-in-None c = none_found _ _ _ _ _ _ (rw c.requires at c.in-None.ensures) (no_more _)

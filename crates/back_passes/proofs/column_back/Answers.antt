@@ -11,11 +11,11 @@ pub returns : goal.returns
 unfolding weight known_factor factor cosine
 returns c =
     row_8
-    (place _ 0 (lit< tt) c.four_terms-r0.ensures)
-    (place _ 1 (lit< tt) c.four_terms-r1.ensures)
-    (place _ 2 (lit< tt) c.four_terms-r2.ensures)
-    (place _ 3 (lit< tt) c.four_terms-r3.ensures)
-    (place _ 4 (lit< tt) c.four_terms-r4.ensures)
-    (place _ 5 (lit< tt) c.four_terms-r5.ensures)
-    (place _ 6 (lit< tt) c.four_terms-r6.ensures)
-    (place _ 7 (lit< tt) c.four_terms-r7.ensures)
+    (place _ 0 (lit< tt) c.four_terms.ensures)
+    (place _ 1 (lit< tt) c.four_terms-2.ensures)
+    (place _ 2 (lit< tt) c.four_terms-3.ensures)
+    (place _ 3 (lit< tt) c.four_terms-4.ensures)
+    (place _ 4 (lit< tt) c.four_terms-5.ensures)
+    (place _ 5 (lit< tt) c.four_terms-6.ensures)
+    (place _ 6 (lit< tt) c.four_terms-7.ensures)
+    (place _ 7 (lit< tt) c.four_terms-8.ensures)

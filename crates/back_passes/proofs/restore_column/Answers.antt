@@ -22,7 +22,7 @@ returns c =
     record {
       size = S.size;
       here = λ n b q.
-          let few : n < 64 = rw c.requires.block_len at b in
+          let few : n < 64 = rw c.told-block at b in
           S.here n b q
           ∙ ap (λ z. shr_z z 128) (ap (λ a. component a 0) (c.column_back.ensures.at (n / 8) (omega arith))
           ∙ weighted_cong (numbers c.across.result) (λ k. component (item (row c.args.x k) c.args.j) 0) (n / 8)

@@ -1,78 +1,55 @@
--- `dequantize` meets its contract: the check of the steps and the products decide, and `narrow` stores these.
-use Rattle.std.specs.Prelude.{◌≡◌, ◌<◌}
-use Rattle.integers.specs.Kit.{refl, sym, ap, ◌∙◌, Bool, false, List, ℕ, ℤ, pos, length, get_or}
-use native.Mathlib.Nat.{suc-ne-zero}
-use Rattle.integers.specs.Range.{beyond, beyond_at}
-use Rattle.integers.specs.Search.{first, any}
-use Rattle.integers.proofs.Search.{first_ext, any_none}
-use Rattle.integers.proofs.Tables.{length-table, get_d_table}
-use Rattle.limits.specs.Limits.{places, dequantized_limit}
-use Rattle.answers.proofs.Jobs.{refused, done}
-use Rattle.dequantize.specs.Dequantize.{dequantized_at, dequantized_beyond_at, dequantized_coefficients, dequantize_job}
-use Rattle.dequantize.specs.Narrow.{Narrow}
-use Rattle.quantize.proofs.Acceptance.{refused-steps, ready, refused-beyond, accepted-call}
+-- The check of the steps decides, and then the products; `narrow` stores these.
+use Rattle.std.specs.Prelude.{◌≡◌}
+use Rattle.integers.specs.Kit.{refl, ◌∙◌}
+use borrow.Author.Rules.{rules}
+use Rattle.answers.specs.Answer.{refused, returned}
+use Rattle.answers.proofs.Jobs as jobs
+use Rattle.quantize.proofs.Acceptance.{places_decide, ready, steps_refused}
+use Rattle.dequantize.specs.Dequantize.{dequantized_beyond_at, dequantize_job}
+use Rattle.dequantize.proofs.Acceptance.{narrow}
 use Rattle.dequantize.proofs.dequantize.Goals as goal
 
--- what `multiply` gives: r says whether any of the products z is beyond the limit
-module _ (q : List ℤ) (s : List ℕ) {r : Bool} {z : List ℤ} (value : r ≡ any places (dequantized_beyond_at q s)) (made : z ≡ dequantized_coefficients q s) where
-  same : (p : ℕ) → p < places → beyond_at dequantized_limit z p ≡ dequantized_beyond_at q s p
-  same p l = ap (beyond dequantized_limit) (ap (λ z. get_or z p (pos 0)) made ∙ get_d_table places (dequantized_at q s) (pos 0) p l)
+pub returns-in_err-check_steps-clause-result_value : goal.returns-in_err-check_steps-clause-result_value
+returns-in_err-check_steps-clause-result_value c =
+    let passed : returned c.from_residual.result ≡ refused c.in_err-check_steps.field-0.0 = search rules in
+    passed ∙ steps_refused (dequantized_beyond_at c.args.values.now c.args.steps.now) _ _ _ _ c.in_err-check_steps.ensures
 
-  searched : {p : ℕ} → p ≡ first places (beyond_at dequantized_limit z) → p ≡ first places (dequantized_beyond_at q s)
-  searched f = f ∙ first_ext places (beyond_at dequantized_limit z) (dequantized_beyond_at q s) same
-
-  -- where none is
-  narrow : r ≡ false → Narrow z
-  narrow t = record { size = rw made (length-table places (dequantized_at q s)); narrow_at = λ p l. same p l ∙ any_none places (dequantized_beyond_at q s) (sym value ∙ t) p l }
-
-pub returns-then-number-ne0 : goal.returns-then-number-ne0
-returns-then-number-ne0 c =
-    let args = c.args in
-    let e =
-    refused-steps (length args.values.now) args.steps.now (length args.coefficients.now) c.check_steps-answer.ensures c.number.ensures
-    (dequantized_beyond_at args.values.now args.steps.now) c.if-number-ne0.true
-    in
-    record {
-      result_value = e;
-      coefficients_after = refused (dequantize_job args.values.now args.steps.now args.coefficients.now) e c.number.ensures c.if-number-ne0.true;
-      values_kept = refl;
-      steps_kept = refl;
-    }
+pub returns-in_err-check_steps-clause-coefficients_after : goal.returns-in_err-check_steps-clause-coefficients_after
+returns-in_err-check_steps-clause-coefficients_after c =
+    let said = steps_refused (dequantized_beyond_at c.args.values.now c.args.steps.now) _ _ _ _ c.in_err-check_steps.ensures in
+    jobs.refused (dequantize_job c.args.values.now c.args.steps.now c.args.coefficients.now) _ said
 
 pub multiply-requires : goal.multiply-requires
 multiply-requires c =
-    let R = ready _ c.args.steps.now _ c.check_steps-answer.ensures c.number.ensures c.if-number-ne0.false in
+    let R = ready c.in_ok-check_steps.ensures in
     record { numbers = R.numbers; ready_steps = R.ready_steps; room = refl }
 
-pub returns-then-multiply : goal.returns-then-multiply
-returns-then-multiply c =
-    let args = c.args in
-    let R = ready _ args.steps.now _ c.check_steps-answer.ensures c.number.ensures c.if-number-ne0.false in
-    let place = searched args.values.now args.steps.now c.multiply.ensures.value c.multiply.ensures.products_after c.first_product_beyond.ensures in
-    let e = refused-beyond (dequantized_beyond_at args.values.now args.steps.now) R c.multiply.ensures.value c.if-multiply.true place in
-    record {
-      result_value = e;
-      coefficients_after = refused (dequantize_job args.values.now args.steps.now args.coefficients.now) e refl (suc-ne-zero 10);
-      values_kept = refl;
-      steps_kept = refl;
-    }
+pub returns-in_err-multiply-clause-result_value : goal.returns-in_err-multiply-clause-result_value
+returns-in_err-multiply-clause-result_value c =
+    let passed : returned c.from_residual-in_err-multiply.result ≡ refused c.in_err-multiply.field-0.0 = search rules in
+    let said = c.in_err-multiply.ensures.returned_value in
+    passed ∙ places_decide (dequantized_beyond_at c.args.values.now c.args.steps.now) _ _ _ c.in_ok-check_steps.ensures said
+
+pub returns-in_err-multiply-clause-coefficients_after : goal.returns-in_err-multiply-clause-coefficients_after
+returns-in_err-multiply-clause-coefficients_after c =
+    let said = c.in_err-multiply.ensures.returned_value in
+    jobs.refused (dequantize_job c.args.values.now c.args.steps.now c.args.coefficients.now) _
+    (places_decide (dequantized_beyond_at c.args.values.now c.args.steps.now) _ _ _ c.in_ok-check_steps.ensures said)
 
 pub narrow-requires : goal.narrow-requires
 narrow-requires c =
+    let said = c.in_ok-multiply.ensures in
     record {
-      narrow = narrow c.args.values.now c.args.steps.now c.multiply.ensures.value c.multiply.ensures.products_after c.if-multiply.false;
-      coefficients_len = (ready _ c.args.steps.now _ c.check_steps-answer.ensures c.number.ensures c.if-number-ne0.false).room;
+      narrow = narrow c.args.values.now c.args.steps.now said.products_after said.returned_value;
+      coefficients_len = (ready c.in_ok-check_steps.ensures).room;
     }
 
-pub returns : goal.returns
-returns c =
-    let args = c.args in
-    let R = ready _ args.steps.now _ c.check_steps-answer.ensures c.number.ensures c.if-number-ne0.false in
-    let e = accepted-call (dequantized_beyond_at args.values.now args.steps.now) R c.multiply.ensures.value c.if-multiply.false in
-    let made = c.narrow.ensures ∙ c.multiply.ensures.products_after in
-    record {
-      result_value = e;
-      coefficients_after = done (dequantize_job args.values.now args.steps.now args.coefficients.now) e refl refl made;
-      values_kept = refl;
-      steps_kept = refl;
-    }
+pub returns-clause-result_value : goal.returns-clause-result_value
+returns-clause-result_value c =
+    places_decide (dequantized_beyond_at c.args.values.now c.args.steps.now) _ _ _ c.in_ok-check_steps.ensures c.in_ok-multiply.ensures.returned_value
+
+pub returns-clause-coefficients_after : goal.returns-clause-coefficients_after
+returns-clause-coefficients_after c =
+    let multiplied = c.in_ok-multiply.ensures in
+    let said = places_decide (dequantized_beyond_at c.args.values.now c.args.steps.now) _ _ _ c.in_ok-check_steps.ensures multiplied.returned_value in
+    jobs.done (dequantize_job c.args.values.now c.args.steps.now c.args.coefficients.now) _ said (c.narrow.ensures ∙ multiplied.products_after)

@@ -1,4 +1,4 @@
--- `narrow` meets its contract: the loop copies the numbers one by one, and each fits an i32.
+-- Then all of them are.
 use Rattle.integers.specs.Kit.{refl, sym, ◌∙◌, pos, get_or}
 use native.Mathlib.Omega.{arith}
 use Rattle.integers.proofs.Tables.{is_table, filled_all}

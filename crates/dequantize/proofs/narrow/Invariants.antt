@@ -1,5 +1,4 @@
--- `narrow` meets its contract: the loop copies the numbers one by one, and each fits an i32.
-use Rattle.std.specs.Prelude.{◌-◌}
+-- The numbers are copied one by one.
 use Rattle.integers.specs.Kit.{pos, get_or}
 use Rattle.integers.proofs.Tables.{Filled}
 use Rattle.limits.specs.Limits.{places}
@@ -7,6 +6,3 @@ use Rattle.dequantize.proofs.narrow.Given as goal
 
 abbrev pub invariant-loop-p : goal.invariant-loop-p
 invariant-loop-p l = Filled (pos 0) places (λ k. get_or l.products k (pos 0)) l.p l.coefficients
-
-abbrev pub decreases-loop-p : goal.decreases-loop-p
-decreases-loop-p l = 64 - l.p

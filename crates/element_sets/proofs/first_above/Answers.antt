@@ -1,23 +1,18 @@
--- `first_above` meets its contract: the loop passes each element within the limit.
-use Rattle.std.specs.Prelude.{◌≡◌, ◌-◌}
-use Rattle.integers.specs.Kit.{sym, ap, ◌∙◌}
+-- The first element above the limit is found, since the loop passed all before it; and past the loop there is none.
+use Rattle.std.specs.Prelude.{◌≡◌, ◌/◌}
+use Rattle.integers.specs.Kit.{ap, ◌∙◌, length}
 use native.Mathlib.Omega.{arith}
-use Rattle.integers.proofs.Search.{first-at, first_none}
+use Rattle.integers.proofs.Search.{found_at, found_none, none_any}
 use Rattle.ring.specs.Element.{magnitudes}
-use Rattle.element_sets.specs.Sets.{above_limit}
 use Rattle.element_sets.proofs.Limit.{above_yes}
 use Rattle.element_sets.proofs.first_above.Goals as goal
 
-pub returns-then-limit-sum : goal.returns-then-limit-sum
-returns-then-limit-sum c =
-    let args = c.args in
-    let sum = c.magnitudes-sum.ensures ∙ ap magnitudes c.element_at.ensures in
-    let taken = c.loop-p-test.true in
-    sym (first-at args.n (above_limit args.limit args.elements.now) c.loop-p.p taken c.loop-p.invariant
-    (above_yes args.limit args.elements.now c.loop-p.p sum (omega arith)))
+pub returns-then-limit-magnitudes : goal.returns-then-limit-magnitudes
+returns-then-limit-magnitudes c =
+    let sum = c.magnitudes.ensures ∙ ap magnitudes c.element_at.ensures in
+    found_at (omega arith) c.loop-p.invariant (above_yes c.args.limit c.args.elements.now c.loop-p.p sum (omega arith))
 
 pub returns : goal.returns
 returns c =
-    let args = c.args in
-    let e : c.loop-p.p ≡ args.n = omega (arith, c.loop-p.invariant.room) in
-    e ∙ sym (first_none args.n (above_limit args.limit args.elements.now) (rw e at c.loop-p.invariant))
+    let all : c.loop-p.p ≡ length c.args.elements.now / 8 = omega arith in
+    found_none _ _ (none_any _ _ (rw all at c.loop-p.invariant).fails)

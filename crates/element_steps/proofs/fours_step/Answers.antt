@@ -1,11 +1,12 @@
--- `fours_step` meets its contract: one part.
+-- `fours_step` meets its contract: one part is the whole row.
+use Rattle.integers.specs.Kit.{◌∙◌}
 use native.Mathlib.Omega.{arith}
 use Rattle.integers.specs.Sum.{sum}
-use Rattle.element_steps.proofs.Sums.{no_parts, part_more, joined_parts}
+use Rattle.element_steps.proofs.Sums.{all_parts}
 use Rattle.element_steps.proofs.fours_step.Goals as goal
 
 pub returns : goal.returns
 unfolding sum
 returns c =
-    joined_parts c.requires.only_components (part_more c.parts-a.ensures.row no_parts) (λ j h. (omega arith, omega arith)) (c.join.ensures.row, c.join.ensures.row_2)
-    c.even_product.ensures.row c.odd_product.ensures.row
+    let step = all_parts c.requires.only_components (λ j h. (omega arith, omega arith)) in
+    record { at = λ f h. c.part_step.ensures.row.at f h ∙ step f }

@@ -1,11 +1,8 @@
--- `odds_step` meets its contract: four parts.
-use native.Mathlib.Omega.{arith}
-use Rattle.element_steps.proofs.Sums.{no_parts, part_more, joined_parts}
+-- `odds_step` meets its contract: both halves.
+use Rattle.dct.specs.Transform.{step}
+use Rattle.elements.specs.Buffer.{item}
+use Rattle.element_steps.proofs.Sums.{joined_halves}
 use Rattle.element_steps.proofs.odds_step.Goals as goal
 
 pub returns : goal.returns
-returns c =
-    joined_parts c.requires.only_components
-    (part_more c.parts-a.ensures.row
-    (part_more c.parts-b.ensures.row (part_more c.parts-c.ensures.row (part_more c.parts-d.ensures.row no_parts))))
-    (λ j h. (omega arith, omega arith)) (c.join.ensures.row, c.join.ensures.row_2) c.odds_even.ensures c.odds_odd.ensures
+returns c = joined_halves (step (item c.args.x)) (c.join.ensures.row, c.join.ensures.row_2) c.odds_half.ensures c.odds_half-2.ensures

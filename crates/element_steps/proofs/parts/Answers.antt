@@ -1,5 +1,4 @@
 -- `parts` meets its contract: the loop takes component k of each element.
-use Rattle.std.specs.Prelude.{◌-◌}
 use Rattle.integers.specs.Kit.{ap, ◌∙◌}
 use native.Mathlib.Omega.{arith}
 use Rattle.integers.proofs.Tables.{each_more}

@@ -1,5 +1,4 @@
 -- `add` meets its contract: the loop fills the sum's components one by one, and each sum of two fits.
-use Rattle.std.specs.Prelude.{◌-◌}
 use Rattle.integers.specs.Kit.{sym, ◌∙◌}
 use native.Mathlib.Omega.{arith}
 use borrow.Author.Rules.{rules}

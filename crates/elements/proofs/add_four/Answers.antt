@@ -1,6 +1,5 @@
 -- `add_four` meets its contract: three sums, each with room for the next.
 use Rattle.integers.specs.Kit.{lit≤}
-use Rattle.ring.specs.Element.{add}
 use Rattle.elements.proofs.Bounds.{within_le}
 use Rattle.elements.proofs.Componentwise.{within_add}
 use Rattle.elements.proofs.add_four.Goals as goal

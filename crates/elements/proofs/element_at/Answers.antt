@@ -1,5 +1,4 @@
 -- `element_at` meets its contract: the loop copies the components one by one.
-use Rattle.std.specs.Prelude.{◌-◌}
 use native.Mathlib.Omega.{arith}
 use Rattle.integers.proofs.Tables.{filled_all}
 use Rattle.elements.specs.Buffer.{element_at}

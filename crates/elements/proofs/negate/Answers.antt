@@ -1,5 +1,4 @@
 -- `negate` meets its contract: the loop fills the negative components one by one.
-use Rattle.std.specs.Prelude.{◌-◌}
 use Rattle.integers.specs.Kit.{sym, ◌∙◌}
 use native.Mathlib.Omega.{arith}
 use borrow.Author.Rules.{rules}

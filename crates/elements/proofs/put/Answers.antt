@@ -1,5 +1,4 @@
 -- `put` meets its contract: the loop stores the components one by one.
-use Rattle.std.specs.Prelude.{◌-◌}
 use native.Mathlib.Omega.{arith}
 use Rattle.elements.proofs.Buffers.{stored_all}
 use Rattle.elements.proofs.put.Goals as goal

@@ -7,6 +7,3 @@ use Rattle.elements.proofs.times.Given as goal
 
 abbrev pub invariant-loop-i : goal.invariant-loop-i
 invariant-loop-i l = Filled (pos 0) 8 (λ i. continued l.a.components (7 + i - l.k) +ℤ continued l.a.components (7 + i + l.k)) l.i l.r
-
-abbrev pub decreases-loop-i : goal.decreases-loop-i
-decreases-loop-i l = 8 - l.i

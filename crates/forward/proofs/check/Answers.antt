@@ -1,20 +1,28 @@
--- `check` meets its contract: each way out has its reason.
-use Rattle.answers.specs.Answer.{holds, passes, none_holds}
-use Rattle.answers.proofs.Causes.{some_found, none_found, only_reason, right_length, wrong_length}
+-- Each check refuses by its cause, or leaves it to the next.
+use Rattle.std.specs.Prelude.{◌≡◌}
+use Rattle.integers.specs.Kit.{◌∙◌}
+use borrow.Author.Rules.{rules}
+use Rattle.answers.specs.Answer.{accept, refused, returned}
+use Rattle.answers.proofs.Causes.{found_refused, no_more, none_found, sized_accepted, sized_is, sized_refused}
 use Rattle.forward.proofs.check.Goals as goal
 
-pub returns-then-samples-ne-PLACES : goal.returns-then-samples-ne-PLACES
-returns-then-samples-ne-PLACES c = only_reason (holds (wrong_length c.if-samples-ne-PLACES.true))
+pub returns-in_err-sized : goal.returns-in_err-sized
+returns-in_err-sized c =
+    let passed : returned c.from_residual.result ≡ refused c.in_err-sized.field-0.0 = search rules in
+    passed ∙ sized_refused _ _ _ _ _ c.in_err-sized.ensures
 
-pub returns-then-room-ne-COMPONENTS : goal.returns-then-room-ne-COMPONENTS
-returns-then-room-ne-COMPONENTS c = only_reason (passes (right_length c.if-samples-ne-PLACES.false) (holds (wrong_length c.if-room-ne-COMPONENTS.true)))
+pub returns-in_err-sized-2 : goal.returns-in_err-sized-2
+returns-in_err-sized-2 c =
+    let passed : returned c.from_residual-in_err-sized-2.result ≡ refused c.in_err-sized-2.field-0.0 = search rules in
+    passed ∙ sized_accepted _ _ _ _ _ c.in_ok-sized.ensures (sized_refused _ _ _ _ _ c.in_err-sized-2.ensures)
 
-pub returns-then-any_outside : goal.returns-then-any_outside
-returns-then-any_outside c =
-    let one = some_found _ _ c.any_outside.ensures c.if-any_outside.true c.first_outside.ensures in
-    only_reason (passes (right_length c.if-samples-ne-PLACES.false) (passes (right_length c.if-room-ne-COMPONENTS.false) (holds one)))
+pub returns-in-Some : goal.returns-in-Some
+returns-in-Some c =
+    let size = sized_is _ _ c.in_ok-sized.ensures in
+    sized_accepted _ _ _ _ _ c.in_ok-sized.ensures (sized_accepted _ _ _ _ _ c.in_ok-sized-2.ensures (found_refused _ _ _ _ _ (rw size at c.in-Some.ensures)))
 
-pub returns : goal.returns
-returns c =
-    let none = none_found _ _ c.any_outside.ensures c.if-any_outside.false in
-    only_reason (passes (right_length c.if-samples-ne-PLACES.false) (passes (right_length c.if-room-ne-COMPONENTS.false) (passes none none_holds)))
+pub returns-in-None : goal.returns-in-None
+returns-in-None c =
+    let size = sized_is _ _ c.in_ok-sized.ensures in
+    let none = none_found _ _ _ _ _ _ (rw size at c.in-None.ensures) (no_more accept) in
+    sized_accepted _ _ _ _ _ c.in_ok-sized.ensures (sized_accepted _ _ _ _ _ c.in_ok-sized-2.ensures none)

@@ -1,5 +1,4 @@
 -- `store_row` meets its contract: the loop stores element after element.
-use Rattle.std.specs.Prelude.{◌-◌}
 use native.Mathlib.Omega.{arith}
 use Rattle.forward_passes.proofs.Stores.{row_more}
 use Rattle.forward_passes.proofs.store_row.Goals as goal

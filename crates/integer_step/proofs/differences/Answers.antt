@@ -4,4 +4,4 @@ use Rattle.integer_step.proofs.Halves.{room-differences}
 use Rattle.integer_step.proofs.differences.Goals as goal
 
 pub returns-clause-room : goal.returns-clause-room
-returns-clause-room c = (room-differences c.requires (row_4 c.difference.ensures c.difference-2.ensures c.difference-3.ensures c.difference-4.ensures)).1
+returns-clause-room c = (room-differences c.requires (row_4 c.subtract.ensures c.subtract-2.ensures c.subtract-3.ensures c.subtract-4.ensures)).1

@@ -4,4 +4,4 @@ use Rattle.integer_step.proofs.Halves.{room-sums}
 use Rattle.integer_step.proofs.sums.Goals as goal
 
 pub returns-clause-room : goal.returns-clause-room
-returns-clause-room c = (room-sums c.requires (row_4 c.sum.ensures c.sum-2.ensures c.sum-3.ensures c.sum-4.ensures)).1
+returns-clause-room c = (room-sums c.requires (row_4 c.add.ensures c.add-2.ensures c.add-3.ensures c.add-4.ensures)).1

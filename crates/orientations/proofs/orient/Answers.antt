@@ -17,20 +17,20 @@ moved o p e f g h k = k ∙ ap₂ scale (sym h) (g ∙ ap (element_at e) f)
 
 pub element_at-a-requires : goal.element_at-a-requires
 element_at-a-requires c =
-    let below = source-below c.args.orientation c.loop-p.p c.requires.orientation_lt_orientations (omega arith) in
+    let below = source-below c.args.orientation.number c.loop-p.p c.args.orientation.known (omega arith) in
     omega (arith, c.source.ensures, c.requires.accepted_set.size, below)
 
 pub signed-requires : goal.signed-requires
 signed-requires c =
     rw (c.element_at-a.ensures, c.source.ensures)
-    (room c.requires.accepted_set (source c.args.orientation c.loop-p.p) (source-below c.args.orientation c.loop-p.p c.requires.orientation_lt_orientations (omega arith)))
+    (room c.requires.accepted_set (source c.args.orientation.number c.loop-p.p) (source-below c.args.orientation.number c.loop-p.p c.args.orientation.known (omega arith)))
 
 pub loop-p-preserved : goal.loop-p-preserved
 loop-p-preserved c =
     let args = c.args in
     rw c.put.ensures
     (elements_more (omega arith) c.loop-p.invariant
-    (moved args.orientation c.loop-p.p args.elements.now c.source.ensures c.element_at-a.ensures c.is_negated.ensures
+    (moved args.orientation.number c.loop-p.p args.elements.now c.source.ensures c.element_at-a.ensures c.is_negated.ensures
     c.signed.ensures))
 
 pub returns : goal.returns

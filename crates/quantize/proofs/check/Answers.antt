@@ -1,29 +1,26 @@
--- `check` meets its contract: each way out has its reason.
-use Rattle.integers.specs.Kit.{length}
-use native.Mathlib.Omega.{arith}
+-- `check_steps` refuses, or leaves it to the coefficients.
+use Rattle.std.specs.Prelude.{◌≡◌}
+use Rattle.integers.specs.Kit.{◌∙◌}
+use borrow.Author.Rules.{rules}
 use Rattle.integers.specs.Range.{beyond_at}
 use Rattle.limits.specs.Limits.{coefficient_limit}
-use Rattle.quantize.proofs.Acceptance.{refused-steps, ready, refused-beyond, accepted-call}
+use Rattle.answers.specs.Answer.{accept, refused, returned}
+use Rattle.answers.proofs.Causes.{found_refused, no_more, none_found}
+use Rattle.quantize.proofs.Acceptance.{places_decide, ready, steps_refused}
 use Rattle.quantize.proofs.check.Goals as goal
 
-pub returns-then-number-ne0 : goal.returns-then-number-ne0
-returns-then-number-ne0 c =
-    let args = c.args in
-    let faulty = beyond_at coefficient_limit args.coefficients.now in
-    refused-steps (length args.coefficients.now) args.steps.now args.room c.check_steps-answer.ensures c.number.ensures faulty c.if-number-ne0.true
+pub returns-in_err-check_steps : goal.returns-in_err-check_steps
+returns-in_err-check_steps c =
+    let passed : returned c.from_residual.result ≡ refused c.in_err-check_steps.field-0.0 = search rules in
+    passed ∙ steps_refused (beyond_at coefficient_limit c.args.coefficients.now) _ _ _ _ c.in_err-check_steps.ensures
 
-pub any_outside-requires : goal.any_outside-requires
-any_outside-requires c = omega (arith, (ready _ c.args.steps.now _ c.check_steps-answer.ensures c.number.ensures c.if-number-ne0.false).numbers)
+pub returns-in-Some : goal.returns-in-Some
+returns-in-Some c =
+    let steps = c.in_ok-check_steps.ensures in
+    places_decide (beyond_at coefficient_limit c.args.coefficients.now) _ _ _ steps (found_refused _ _ _ _ _ (rw (ready steps).numbers at c.in-Some.ensures))
 
-pub first_outside-p-requires : goal.first_outside-p-requires
-first_outside-p-requires c = omega (arith, (ready _ c.args.steps.now _ c.check_steps-answer.ensures c.number.ensures c.if-number-ne0.false).numbers)
-
-pub returns-then-any_outside : goal.returns-then-any_outside
-returns-then-any_outside c =
-    let checked = ready _ c.args.steps.now _ c.check_steps-answer.ensures c.number.ensures c.if-number-ne0.false in
-    refused-beyond (beyond_at coefficient_limit c.args.coefficients.now) checked c.any_outside.ensures c.if-any_outside.true c.first_outside-p.ensures
-
-pub returns : goal.returns
-returns c =
-    let checked = ready _ c.args.steps.now _ c.check_steps-answer.ensures c.number.ensures c.if-number-ne0.false in
-    accepted-call (beyond_at coefficient_limit c.args.coefficients.now) checked c.any_outside.ensures c.if-any_outside.false
+pub returns-in-None : goal.returns-in-None
+returns-in-None c =
+    let steps = c.in_ok-check_steps.ensures in
+    let none = none_found _ _ _ _ _ _ (rw (ready steps).numbers at c.in-None.ensures) (no_more accept) in
+    places_decide (beyond_at coefficient_limit c.args.coefficients.now) _ _ _ steps none

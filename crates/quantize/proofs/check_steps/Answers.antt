@@ -1,25 +1,35 @@
--- `check_steps` meets its contract: each way out has its reason.
-use Rattle.answers.specs.Answer.{holds, passes, none_holds}
-use Rattle.answers.proofs.Causes.{found, not_found, only_reason, right_length, wrong_length}
+-- Each check refuses by its cause, or leaves it to the next.
+use Rattle.std.specs.Prelude.{◌≡◌}
+use Rattle.integers.specs.Kit.{◌∙◌}
+use borrow.Author.Rules.{rules}
+use Rattle.answers.specs.Answer.{accept, refused, returned}
+use Rattle.answers.proofs.Causes.{found_refused, no_more, none_found, sized_accepted, sized_is, sized_refused}
 use Rattle.quantize.proofs.check_steps.Goals as goal
 
-pub returns-then-n-ne-PLACES : goal.returns-then-n-ne-PLACES
-returns-then-n-ne-PLACES c = only_reason (holds (wrong_length c.if-n-ne-PLACES.true))
+pub returns-in_err-sized : goal.returns-in_err-sized
+returns-in_err-sized c =
+    let passed : returned c.from_residual.result ≡ refused c.in_err-sized.field-0.0 = search rules in
+    passed ∙ sized_refused _ _ _ _ _ c.in_err-sized.ensures
 
-pub returns-then-steps-ne-PLACES : goal.returns-then-steps-ne-PLACES
-returns-then-steps-ne-PLACES c = only_reason (passes (right_length c.if-n-ne-PLACES.false) (holds (wrong_length c.if-steps-ne-PLACES.true)))
+pub returns-in_err-sized-2 : goal.returns-in_err-sized-2
+returns-in_err-sized-2 c =
+    let passed : returned c.from_residual-in_err-sized-2.result ≡ refused c.in_err-sized-2.field-0.0 = search rules in
+    passed ∙ sized_accepted _ _ _ _ _ c.in_ok-sized.ensures (sized_refused _ _ _ _ _ c.in_err-sized-2.ensures)
 
-pub returns-then-m-ne-PLACES : goal.returns-then-m-ne-PLACES
-returns-then-m-ne-PLACES c = only_reason (passes (right_length c.if-n-ne-PLACES.false) (passes (right_length c.if-steps-ne-PLACES.false) (holds (wrong_length c.if-m-ne-PLACES.true))))
+pub returns-in_err-sized-3 : goal.returns-in_err-sized-3
+returns-in_err-sized-3 c =
+    let passed : returned c.from_residual-in_err-sized-3.result ≡ refused c.in_err-sized-3.field-0.0 = search rules in
+    let third = sized_refused _ _ _ _ _ c.in_err-sized-3.ensures in
+    passed ∙ sized_accepted _ _ _ _ _ c.in_ok-sized.ensures (sized_accepted _ _ _ _ _ c.in_ok-sized-2.ensures third)
 
-pub returns-then-k-lt-PLACES : goal.returns-then-k-lt-PLACES
-returns-then-k-lt-PLACES c = only_reason
-    (passes (right_length c.if-n-ne-PLACES.false)
-    (passes (right_length c.if-steps-ne-PLACES.false)
-    (passes (right_length c.if-m-ne-PLACES.false) (holds (found _ _ c.first_step_outside-k.ensures c.if-k-lt-PLACES.true)))))
+pub returns-in-Some : goal.returns-in-Some
+returns-in-Some c =
+    let size = sized_is _ _ c.in_ok-sized-2.ensures in
+    let third = sized_accepted _ _ _ _ _ c.in_ok-sized-3.ensures (found_refused _ _ _ _ _ (rw size at c.in-Some.ensures)) in
+    sized_accepted _ _ _ _ _ c.in_ok-sized.ensures (sized_accepted _ _ _ _ _ c.in_ok-sized-2.ensures third)
 
-pub returns : goal.returns
-returns c = only_reason
-    (passes (right_length c.if-n-ne-PLACES.false)
-    (passes (right_length c.if-steps-ne-PLACES.false)
-    (passes (right_length c.if-m-ne-PLACES.false) (passes (not_found _ _ c.first_step_outside-k.ensures c.if-k-lt-PLACES.false) none_holds))))
+pub returns-in-None : goal.returns-in-None
+returns-in-None c =
+    let size = sized_is _ _ c.in_ok-sized-2.ensures in
+    let third = sized_accepted _ _ _ _ _ c.in_ok-sized-3.ensures (none_found _ _ _ _ _ _ (rw size at c.in-None.ensures) (no_more accept)) in
+    sized_accepted _ _ _ _ _ c.in_ok-sized.ensures (sized_accepted _ _ _ _ _ c.in_ok-sized-2.ensures third)

@@ -1,4 +1,4 @@
--- `fill` meets its contract: the loop fills the values one by one, and each fits an i32.
+-- The values are written one by one, and each fits an i32.
 use Rattle.std.specs.Prelude.{◌≡◌, ◌≤◌, ◌<◌}
 use Rattle.integers.specs.Kit.{ap, ◌∙◌, ℕ, lit<, ℤ, pos, nat_abs, get_or}
 use native.Mathlib.Nat.{lt_of_le_of_lt}

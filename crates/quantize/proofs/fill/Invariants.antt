@@ -1,5 +1,4 @@
--- `fill` meets its contract: the loop fills the values one by one, and each fits an i32.
-use Rattle.std.specs.Prelude.{◌-◌}
+-- The values are written one by one.
 use Rattle.integers.specs.Kit.{pos}
 use Rattle.integers.proofs.Tables.{Filled}
 use Rattle.limits.specs.Limits.{places}
@@ -8,6 +7,3 @@ use Rattle.quantize.proofs.fill.Given as goal
 
 abbrev pub invariant-loop-p : goal.invariant-loop-p
 invariant-loop-p l = Filled (pos 0) places (quantized_at l.coefficients l.steps) l.p l.values
-
-abbrev pub decreases-loop-p : goal.decreases-loop-p
-decreases-loop-p l = 64 - l.p

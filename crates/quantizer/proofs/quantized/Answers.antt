@@ -36,9 +36,9 @@ module _ {y : ℤ} {s : ℕ} (f : SFits w32 y) (h : nat_abs y ≤ coefficient_li
     negative-read = rw negative (kept w32 (neg_ℤ (pos r)) negative_small ∙ ap (λ q. neg_ℤ (pos q)) is_quotient)
 
 pub returns-then-y-lt0 : goal.returns-then-y-lt0
-returns-then-y-lt0 c = negative-read c.ranges.y c.requires.y_bound c.requires.step_nonzero c.magnitude.ensures c.quotient-q.ensures
+returns-then-y-lt0 c = negative-read c.ranges.y c.requires.y_bound c.requires.step_nonzero c.unsigned_abs.ensures.value c.quotient-q.ensures
     ∙ quantized-negative c.args.step c.args.y (rw (read_i32 c.args.y c.ranges.y) at c.if-y-lt0.true)
 
 pub returns : goal.returns
-returns c = read c.ranges.y c.requires.y_bound c.requires.step_nonzero c.magnitude.ensures c.quotient-q.ensures
+returns c = read c.ranges.y c.requires.y_bound c.requires.step_nonzero c.unsigned_abs.ensures.value c.quotient-q.ensures
     ∙ quantized_positive c.args.step c.args.y (rw (read_i32 c.args.y c.ranges.y) at c.if-y-lt0.false)

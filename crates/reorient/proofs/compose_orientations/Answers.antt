@@ -1,20 +1,24 @@
--- `compose_orientations` meets its contract: each way out has its reason.
+-- The first number that is none refuses; of two orientations the table has the one.
+use Rattle.std.specs.Prelude.{◌≡◌}
 use Rattle.integers.specs.Kit.{sym, ap, ◌∙◌}
-use borrow.Author.Tests.{le-ltb}
-use Rattle.answers.specs.Answer.{holds, fails, passes, accept_with}
+use borrow.Author.Rules.{rules}
+use Rattle.answers.specs.Answer.{accept_with, fails, holds, passes, returned_with}
 use Rattle.answers.proofs.Causes.{only_reason}
-use Rattle.orientations.specs.Orientation.{orientations}
 use Rattle.reorient.proofs.Acceptance.{known, composes}
 use Rattle.reorient.proofs.compose_orientations.Goals as goal
 
-pub returns-then-first-ge-ORIENTATIONS : goal.returns-then-first-ge-ORIENTATIONS
-returns-then-first-ge-ORIENTATIONS c = only_reason (holds (fails (le-ltb _ orientations c.if-first-ge-ORIENTATIONS.true)))
+pub returns-in_err-row : goal.returns-in_err-row
+returns-in_err-row c =
+    let passed : returned_with (λ n. n) c.from_residual.result ≡ record { number = 9; place = 0 } = search rules in
+    passed ∙ only_reason (holds (fails c.in_err-row.ensures.1))
 
-pub returns-then-second-ge-ORIENTATIONS : goal.returns-then-second-ge-ORIENTATIONS
-returns-then-second-ge-ORIENTATIONS c =
-    only_reason (passes (known _ c.if-first-ge-ORIENTATIONS.false) (holds (fails (le-ltb _ orientations c.if-second-ge-ORIENTATIONS.true))))
+pub returns-in_err-column : goal.returns-in_err-column
+returns-in_err-column c =
+    let passed : returned_with (λ n. n) c.from_residual-in_err-column.result ≡ record { number = 9; place = 0 } = search rules in
+    passed ∙ only_reason (passes (known _ (rw c.in_ok-row.ensures at c.in_ok-row.row.known)) (holds (fails c.in_err-column.ensures.1)))
 
 pub returns : goal.returns
 returns c =
-    let args = c.args in
-    ap accept_with c.composed.ensures ∙ sym (composes args.first args.second c.if-first-ge-ORIENTATIONS.false c.if-second-ge-ORIENTATIONS.false)
+    let row = rw c.in_ok-row.ensures at c.in_ok-row.row.known in
+    let column = rw c.in_ok-column.ensures at c.in_ok-column.column.known in
+    ap accept_with (rw (c.in_ok-row.ensures, c.in_ok-column.ensures) at c.composed.ensures) ∙ sym (composes _ _ row column)

@@ -1,37 +1,40 @@
--- `check` meets its contract: each way out has its reason.
+-- Each check refuses by its cause, or leaves it to the next.
 use Rattle.std.specs.Prelude.{◌≡◌}
-use Rattle.integers.specs.Kit.{sym, ◌∙◌, Bool, true, T}
-use Rattle.answers.specs.Answer.{fails, holds, passes, none_holds}
-use Rattle.answers.proofs.Causes.{found, not_found, only_reason, right_length, wrong_length}
+use Rattle.integers.specs.Kit.{◌∙◌, false}
+use borrow.Author.Rules.{rules}
+use Rattle.answers.specs.Answer.{fails, holds, none_holds, passes, refused, returned}
+use Rattle.answers.proofs.Causes.{found_names, found_passes, only_reason, sized_accepted, sized_is, sized_refused}
+use Rattle.coefficients.specs.Tables.{width}
+use Rattle.coefficients.specs.Widths.{bits}
+use Rattle.coefficients.proofs.Widths.{read_width}
 use Rattle.round.proofs.check.Goals as goal
 
--- a test whose answer is r
-passed : {r t : Bool} → r ≡ t → r ≡ true → T t
-passed e h = rw (← e, h) tt
+pub returns-in_err-sized-clause-returned_value : goal.returns-in_err-sized-clause-returned_value
+returns-in_err-sized-clause-returned_value c =
+    let passed : returned c.from_residual.result ≡ refused c.in_err-sized.field-0.0 = search rules in
+    passed ∙ sized_refused _ _ _ _ _ c.in_err-sized.ensures
 
-pub returns-then-elements-ne-COMPONENTS : goal.returns-then-elements-ne-COMPONENTS
-returns-then-elements-ne-COMPONENTS c = only_reason (holds (wrong_length c.if-elements-ne-COMPONENTS.true))
+pub returns-in_err-sized-2-clause-returned_value : goal.returns-in_err-sized-2-clause-returned_value
+returns-in_err-sized-2-clause-returned_value c =
+    let passed : returned c.from_residual-in_err-sized-2.result ≡ refused c.in_err-sized-2.field-0.0 = search rules in
+    passed ∙ sized_accepted _ _ _ _ _ c.in_ok-sized.ensures (sized_refused _ _ _ _ _ c.in_err-sized-2.ensures)
 
-pub returns-then-room-ne-PLACES : goal.returns-then-room-ne-PLACES
-returns-then-room-ne-PLACES c = only_reason (passes (right_length c.if-elements-ne-COMPONENTS.false) (holds (wrong_length c.if-room-ne-PLACES.true)))
+pub returns-in_err-width-clause-returned_value : goal.returns-in_err-width-clause-returned_value
+returns-in_err-width-clause-returned_value c =
+    let passed : returned c.from_residual-in_err-width.result ≡ record { number = 3; place = 0 } = search rules in
+    let none : width c.args.b ≡ false = search rules in
+    passed ∙ sized_accepted _ _ _ _ _ c.in_ok-sized.ensures (sized_accepted _ _ _ _ _ c.in_ok-sized-2.ensures (only_reason (holds (fails none))))
 
-pub returns-then-not-is_width : goal.returns-then-not-is_width
-returns-then-not-is_width c =
-    only_reason
-    (passes (right_length c.if-elements-ne-COMPONENTS.false)
-    (passes (right_length c.if-room-ne-PLACES.false) (holds (fails (sym c.is_width.ensures ∙ c.if-not-is_width.true)))))
+pub returns-in-Some-clause-returned_value : goal.returns-in-Some-clause-returned_value
+returns-in-Some-clause-returned_value c =
+    let size = sized_is _ _ c.in_ok-sized.ensures in
+    let read : bits c.in_ok-width.width ≡ c.args.b = search rules in
+    let one = holds (found_names _ _ _ (rw size at c.in-Some.ensures)) in
+    sized_accepted _ _ _ _ _ c.in_ok-sized.ensures (sized_accepted _ _ _ _ _ c.in_ok-sized-2.ensures (only_reason (passes (read_width c.in_ok-width.width read) one)))
 
-pub returns-then-p-lt-PLACES : goal.returns-then-p-lt-PLACES
-returns-then-p-lt-PLACES c =
-    only_reason
-    (passes (right_length c.if-elements-ne-COMPONENTS.false)
-    (passes (right_length c.if-room-ne-PLACES.false)
-    (passes (passed c.is_width.ensures c.if-not-is_width.false) (holds (found _ _ c.first_above-p.ensures c.if-p-lt-PLACES.true)))))
-
-pub returns : goal.returns
-returns c =
-    only_reason
-    (passes (right_length c.if-elements-ne-COMPONENTS.false)
-    (passes (right_length c.if-room-ne-PLACES.false)
-    (passes (passed c.is_width.ensures c.if-not-is_width.false)
-    (passes (not_found _ _ c.first_above-p.ensures c.if-p-lt-PLACES.false) none_holds))))
+pub returns-in-None-clause-returned_value : goal.returns-in-None-clause-returned_value
+returns-in-None-clause-returned_value c =
+    let size = sized_is _ _ c.in_ok-sized.ensures in
+    let read : bits c.in_ok-width.width ≡ c.args.b = search rules in
+    let none = passes (found_passes _ _ (rw size at c.in-None.ensures)) none_holds in
+    sized_accepted _ _ _ _ _ c.in_ok-sized.ensures (sized_accepted _ _ _ _ _ c.in_ok-sized-2.ensures (only_reason (passes (read_width c.in_ok-width.width read) none)))

@@ -1,13 +1,14 @@
 -- `sheet` meets its contract: the check decides, and past it the sheet is converted.
-use borrow.Author.Rules.{rules}
 use Rattle.std.specs.Prelude.{◌≡◌}
 use Rattle.integers.specs.Kit.{refl, ap, ◌∙◌, List, ℕ, ℤ}
-use Rattle.answers.proofs.Jobs.{refused, is_accepted, done}
+use borrow.Author.Rules.{rules}
+use Rattle.answers.specs.Job.{Job}
+use Rattle.answers.proofs.Jobs.{done, is_accepted, refused}
 use Rattle.sheet_checks.specs.Check.{blocks}
 use Rattle.sheet_blocks.specs.declared.Totals.{Totals}
 use Rattle.sheet_blocks.specs.Blocks.{element_scratch, coefficient_sheet}
-use Rattle.sheet_blocks.specs.Sums.{Agree, sheet_totals}
-use Rattle.sheet.specs.Sheet.{Left, sheet_job}
+use Rattle.sheet_blocks.specs.Sums.{Agree, no_totals, sheet_totals}
+use Rattle.sheet.specs.Sheet.{Left, sheet_job, totals_given}
 use Rattle.sheet.proofs.Causes.{accepted_checked}
 use Rattle.sheet.proofs.sheet.Goals as goal
 
@@ -20,33 +21,35 @@ left_is : {s t : List ℤ} {o p : List ℕ} {u v : Totals} → s ≡ t → o ≡
     → ◌≡◌ {A = Left} (record { scratch = s; output = o; totals = u }) (record { scratch = t; output = p; totals = v })
 left_is e f g = rw (e, f, g)
 
-pub returns-then-number-ne0 : goal.returns-then-number-ne0
-returns-then-number-ne0 c =
-    let args = c.args in
-    let job = sheet_job element_scratch args.words.now args.b args.scratch.now args.output.now in
-    let made = c.refused.ensures in
-    let left = refused job c.check-answer.ensures c.number.ensures c.if-number-ne0.true in
-    record {
-      answer_value = search rules;
-      totals_value = made.totals_value ∙ ap (λ (l : Left). l.totals) left;
-      scratch_after = ap (λ (l : Left). l.scratch) left;
-      output_after = ap (λ (l : Left). l.output) left;
-      words_kept = refl;
-    }
+-- what a call leaves
+abbrev job : List ℕ → ℕ → List ℤ → List ℕ → Job Left
+job = sheet_job element_scratch
+
+pub returns-in_err-width-clause-totals_value : goal.returns-in_err-width-clause-totals_value
+returns-in_err-width-clause-totals_value c =
+    let left = refused (job c.args.words.now c.args.b c.args.scratch.now c.args.output.now) _ c.in_err-width.ensures.answer_value in
+    let none : totals_given c.from_residual.result ≡ no_totals = search rules in
+    none ∙ ap (λ (l : Left). l.totals) left
+
+pub returns-in_err-width-clause-scratch_after : goal.returns-in_err-width-clause-scratch_after
+returns-in_err-width-clause-scratch_after c =
+    ap (λ (l : Left). l.scratch) (refused (job c.args.words.now c.args.b c.args.scratch.now c.args.output.now) _ c.in_err-width.ensures.answer_value)
+
+pub returns-in_err-width-clause-output_after : goal.returns-in_err-width-clause-output_after
+returns-in_err-width-clause-output_after c =
+    ap (λ (l : Left). l.output) (refused (job c.args.words.now c.args.b c.args.scratch.now c.args.output.now) _ c.in_err-width.ensures.answer_value)
 
 pub convert-totals-requires : goal.convert-totals-requires
 convert-totals-requires c =
     let args = c.args in
-    let job = sheet_job element_scratch args.words.now args.b args.scratch.now args.output.now in
-    accepted_checked element_scratch args.words.now args.b args.scratch.now args.output.now
-    (is_accepted job c.check-answer.ensures c.number.ensures c.if-number-ne0.false)
+    rw c.in_ok-width.ensures.width_value (accepted_checked element_scratch args.words.now args.b args.scratch.now args.output.now
+    (is_accepted (job args.words.now args.b args.scratch.now args.output.now) _ c.in_ok-width.ensures.answer_value))
 
 pub returns : goal.returns
 returns c =
-    let args = c.args in
-    let job = sheet_job element_scratch args.words.now args.b args.scratch.now args.output.now in
-    let made = c.convert-totals.ensures in
-    let left = done job c.check-answer.ensures c.number.ensures c.if-number-ne0.false (left_is made.scratch_after made.output_after (totals_are args.b made.agree)) in
+    let made = rw c.in_ok-width.ensures.width_value at c.convert-totals.ensures in
+    let left = done (job c.args.words.now c.args.b c.args.scratch.now c.args.output.now) _ c.in_ok-width.ensures.answer_value
+    (left_is made.scratch_after made.output_after (totals_are c.args.b made.agree)) in
     record {
       answer_value = search rules;
       totals_value = ap (λ (l : Left). l.totals) left;

@@ -1,16 +1,13 @@
 -- `all_blocks` meets its contract: the loop does one block after the other.
-use Rattle.std.specs.Prelude.{◌-◌}
 use native.Mathlib.Omega.{arith}
 use Rattle.sheet_blocks.proofs.Loop.{reached_none, reached_more}
 use Rattle.sheet_blocks.proofs.all_blocks.Goals as goal
 
-pub loop-state-init : goal.loop-state-init
-loop-state-init c = reached_none c.requires
+pub loop-k-init : goal.loop-k-init
+loop-k-init c = let none = c.default-totals.ensures in reached_none c.requires none.0 none.1
 
-pub loop-state-preserved : goal.loop-state-preserved
-loop-state-preserved c =
-    let reached = c.loop-state.invariant in
-    let made = c.next_block-state.ensures in
-    reached_more reached (omega (arith, reached.checked.right.valid_shape.count)) made.blocks_value c.next_block-state.auto.scratch
-    c.next_block-state.auto.output made.agree_2 made.scratch_after
-    made.output_after
+pub loop-k-preserved : goal.loop-k-preserved
+loop-k-preserved c =
+    let reached = c.loop-k.invariant in
+    let made = c.next_block-totals.ensures in
+    reached_more reached (omega (arith, reached.checked.right.valid_shape.count)) c.next_block-totals.auto.scratch c.next_block-totals.auto.output made.agree_2 made.scratch_after made.output_after

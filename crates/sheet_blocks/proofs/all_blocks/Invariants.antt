@@ -1,12 +1,8 @@
 -- `all_blocks` meets its contract: the loop does one block after the other.
-use Rattle.std.specs.Prelude.{◌-◌}
-use Rattle.sheet_checks.specs.Check.{blocks}
+use Rattle.coefficients.specs.Widths.{bits}
 use Rattle.sheet_blocks.specs.Blocks.{element_scratch}
 use Rattle.sheet_blocks.proofs.Loop.{Reached}
 use Rattle.sheet_blocks.proofs.all_blocks.Given as goal
 
-abbrev pub invariant-loop-state : goal.invariant-loop-state
-invariant-loop-state l = Reached element_scratch l.words l.b l.initial.output l.state.blocks l.state.totals l.scratch l.output
-
-abbrev pub decreases-loop-state : goal.decreases-loop-state
-decreases-loop-state l = l.n - l.state.blocks
+abbrev pub invariant-loop-k : goal.invariant-loop-k
+invariant-loop-k l = Reached element_scratch l.words (bits l.width) l.initial.output l.k l.totals l.scratch l.output

@@ -1,5 +1,4 @@
 -- `block` meets its contract: the loop reads the values of 64 words.
-use Rattle.std.specs.Prelude.{◌-◌}
 use native.Mathlib.Omega.{arith}
 use Rattle.integers.proofs.Tables.{filled_all}
 use Rattle.sheet_blocks.specs.Blocks.{block}

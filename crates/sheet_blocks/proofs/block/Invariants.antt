@@ -1,5 +1,5 @@
 -- `block` meets its contract: the loop reads the values of 64 words.
-use Rattle.std.specs.Prelude.{◌+◌, ◌*◌, ◌-◌}
+use Rattle.std.specs.Prelude.{◌+◌, ◌*◌}
 use Rattle.integers.specs.Kit.{pos}
 use Rattle.integers.proofs.Tables.{Filled}
 use Rattle.limits.specs.Limits.{places}
@@ -9,6 +9,3 @@ use Rattle.sheet_blocks.proofs.block.Given as goal
 
 abbrev pub invariant-loop-i : goal.invariant-loop-i
 invariant-loop-i l = Filled (pos 0) places (λ i. value (payload (word_at l.words (1 + places * l.k + i)))) l.i l.samples
-
-abbrev pub decreases-loop-i : goal.decreases-loop-i
-decreases-loop-i l = 64 - l.i

@@ -8,6 +8,7 @@ use Rattle.integers.proofs.Signed.{read_i32}
 use Rattle.limits.specs.Limits.{blocks_limit, places}
 use Rattle.blocks.specs.Blocks.{block_sum, elements_of}
 use Rattle.coefficients.specs.Coefficients.{coefficients_of}
+use Rattle.coefficients.specs.Widths.{bits}
 use Rattle.sheet_blocks.specs.Blocks.{block, block_coefficients, coefficient_word}
 use Rattle.sheet_blocks.proofs.Output.{block_written}
 use Rattle.sheet_blocks.proofs.Samples.{block_words, block_range}
@@ -22,36 +23,36 @@ of_block b words k e = ap (λ x. coefficients_of 2 b (elements_of 2 x)) e
 pub convert_block-requires-clause-all_in_range : goal.convert_block-requires-clause-all_in_range
 convert_block-requires-clause-all_in_range c =
     let checked = c.requires.checked in
-    let k = c.args.state.blocks in
+    let k = c.args.k in
     let words = block_words checked k c.requires.blocks_bound in
     rw c.block-samples.ensures (block_range checked k c.requires.blocks_bound)
 
 pub with_block-requires : goal.with_block-requires
 with_block-requires c =
     let checked = c.requires.checked in
-    let few : c.args.state.blocks < blocks_limit = omega (arith, c.requires.blocks_bound, checked.right.valid_shape.few_blocks) in
+    let few : c.args.k < blocks_limit = omega (arith, c.requires.blocks_bound, checked.right.valid_shape.few_blocks) in
     record {
       room = room c.requires.agree few;
-      all_in_range = rw c.block-samples.ensures (block_range checked c.args.state.blocks c.requires.blocks_bound);
+      all_in_range = rw c.block-samples.ensures (block_range checked c.args.k c.requires.blocks_bound);
     }
 
 pub returns : goal.returns
 returns c =
     let args = c.args in
     let checked = c.requires.checked in
-    let k = args.state.blocks in
+    let k = args.k in
+    let b = bits args.width in
     let words = block_words checked k c.requires.blocks_bound in
     let samples = c.block-samples.ensures in
     let rest = length args.output.now - (1 + places * k) in
     let made = c.convert_block.ensures in
-    let is = ap (λ y. over (table places (coefficient_word y)) (take rest (drop (1 + places * k) args.output.now))) (of_block args.b args.words.now k samples) in
-    let left = block_written args.b args.words.now args.output.now k rest words (omega (arith, checked.output_size)) (omega (arith, checked.output_size)) (made.output_after ∙ is) in
+    let is = ap (λ y. over (table places (coefficient_word y)) (take rest (drop (1 + places * k) args.output.now))) (of_block b args.words.now k samples) in
+    let left = block_written b args.words.now args.output.now k rest words (omega (arith, checked.output_size)) (omega (arith, checked.output_size)) (made.output_after ∙ is) in
     let first = read_i32 c.value.result (search rules) ∙ c.value.ensures in
     let sums = c.with_block.ensures in
     record {
-      blocks_value = search rules;
-      agree_2 = agree_more c.requires.agree args.b (omega (arith, checked.output_size)) left
-          (sums.samples_value ∙ ap (λ x. args.state.totals.samples +ℤ block_sum x) samples) (sums.firsts_value ∙ ap (λ z. args.state.totals.firsts +ℤ z) first);
+      agree_2 = agree_more c.requires.agree b (omega (arith, checked.output_size)) left
+          (sums.samples_value ∙ ap (λ x. args.totals.samples +ℤ block_sum x) samples) (sums.firsts_value ∙ ap (λ z. args.totals.firsts +ℤ z) first);
       scratch_after = search rules;
       output_after = left;
     }

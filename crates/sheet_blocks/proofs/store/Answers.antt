@@ -1,5 +1,4 @@
 -- `store` meets its contract: the loop writes the words of 64 coefficients over the start of its part of the output.
-use Rattle.std.specs.Prelude.{◌-◌}
 use Rattle.integers.specs.Kit.{ap, ◌∙◌, pos, get_or}
 use native.Mathlib.Omega.{arith}
 use borrow.Author.Rules.{rules}
@@ -13,7 +12,7 @@ loop-i-init c = begun_none c.requires.places_in_bounds
 
 pub loop-i-preserved : goal.loop-i-preserved
 loop-i-preserved c =
-    let z = get_or c.args.coefficients c.loop-i.i (pos 0) in
+    let z = get_or c.args.coefficients.now c.loop-i.i (pos 0) in
     let read = read_i32 z (search rules) in
     begun_more (omega arith) c.loop-i.invariant (c.with_value.ensures ∙ ap (λ z. word coefficient_kind (payload_of z)) read)
 

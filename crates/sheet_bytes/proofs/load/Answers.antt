@@ -1,8 +1,7 @@
 -- `load` meets its contract: the loop writes the words one by one.
-use Rattle.std.specs.Prelude.{◌-◌}
 use native.Mathlib.Omega.{arith}
 use Rattle.integers.proofs.Overwriting.{begun_none, begun_more, begun_all}
-use Rattle.sheet_bytes.specs.Program.{word_from, words_of}
+use Rattle.sheet_bytes.specs.Program.{words_of}
 use Rattle.sheet_bytes.proofs.load.Goals as goal
 
 pub loop-i-init : goal.loop-i-init

@@ -1,15 +1,18 @@
 -- `check_sheet` meets its contract: the shape decides, and past it the words do.
-use Rattle.sheet_checks.proofs.Causes.{wrong_shape, shaped, words_decide}
+use Rattle.std.specs.Prelude.{◌≡◌}
+use Rattle.integers.specs.Kit.{◌∙◌}
+use borrow.Author.Rules.{rules}
+use Rattle.answers.specs.Answer.{refused, returned}
+use Rattle.sheet_checks.proofs.Causes.{shape_refused, shaped, words_decide}
 use Rattle.sheet_checks.proofs.check_sheet.Goals as goal
 
-pub returns-then-number-ne0 : goal.returns-then-number-ne0
-returns-then-number-ne0 c = let args = c.args in
-    wrong_shape args.f args.sheet.now c.check_shape-shape.ensures c.number.ensures c.if-number-ne0.true
+pub returns-in_err-check_shape : goal.returns-in_err-check_shape
+returns-in_err-check_shape c =
+    let passed : returned c.from_residual.result ≡ refused c.in_err-check_shape.field-0.0 = search rules in
+    passed ∙ shape_refused c.args.f c.args.sheet.now _ c.in_err-check_shape.ensures
 
 pub check_words-requires : goal.check_words-requires
-check_words-requires c = let args = c.args in
-    shaped args.f args.sheet.now c.check_shape-shape.ensures c.number.ensures c.if-number-ne0.false
+check_words-requires c = shaped c.args.f c.args.sheet.now c.in_ok-check_shape.ensures
 
 pub returns : goal.returns
-returns c = let args = c.args in
-    words_decide args.f args.sheet.now c.check_shape-shape.ensures c.number.ensures c.if-number-ne0.false c.check_words.ensures
+returns c = words_decide c.args.f c.args.sheet.now c.in_ok-check_shape.ensures c.check_words.ensures

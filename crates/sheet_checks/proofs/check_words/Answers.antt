@@ -1,13 +1,10 @@
--- `check_words` meets its contract: where no word is faulty there is none to find.
-use Rattle.std.specs.Prelude.{◌∷◌}
-use Rattle.integers.specs.Kit.{sym, ◌∙◌, [], length}
-use Rattle.integers.proofs.Search.{any_none}
-use Rattle.answers.specs.Answer.{passes, none_holds}
-use Rattle.answers.proofs.Causes.{only_reason}
-use Rattle.sheet_checks.specs.Check.{contents, faulty}
+-- `check_words` meets its contract: the search in the body finds the first faulty word, or the end word decides.
+use native.Mathlib.Omega.{arith}
+use Rattle.sheet_checks.proofs.Faults.{found_in_body, none_in_body}
 use Rattle.sheet_checks.proofs.check_words.Goals as goal
 
-pub returns : goal.returns
-returns c = let args = c.args in
-    let words = args.sheet.now in
-    only_reason {l = contents args.f words ∷ []} (passes (any_none (length words) (faulty args.f words) (sym c.any_faulty.ensures ∙ c.if-any_faulty.false)) none_holds)
+pub returns-in-Some : goal.returns-in-Some
+returns-in-Some c = found_in_body c.args.f c.args.sheet.now (omega arith) c.in-Some.ensures c.body_refusal.ensures
+
+pub returns-in-None : goal.returns-in-None
+returns-in-None c = none_in_body c.args.f c.args.sheet.now (omega arith) c.in-None.ensures (omega arith) (rw c.blocks-in-None.ensures at c.check_end.ensures)

@@ -12,21 +12,21 @@ use Rattle.sum_bytes.proofs.convert.Goals as goal
 abbrev sums_of : List ℕ → List ℕ
 sums_of words = sum_line (samples_total words) (firsts_total program_width words)
 
-pub returns-then-number-ne0 : goal.returns-then-number-ne0
+pub returns-in-Err : goal.returns-in-Err
 unfolding sum_bytes
-returns-then-number-ne0 c =
+returns-in-Err c =
     let args = c.args in
-    let is = refused_bytes (take input_limit args.input.now) c.transform_input-answered.ensures.answer_value c.number.ensures sums_of c.if-number-ne0.true in
+    let is = refused_bytes (take input_limit args.input.now) sums_of c.in-Err.r c.in-Err.ensures.answer_value in
     let (m, (l, counts)) = promised args.output.now is c.refusal.ensures.value c.refusal.ensures.output_after in
     record { value = m; output_after = l; prefix_len = counts; input_kept = refl }
 
-pub returns : goal.returns
+pub returns-in-Ok : goal.returns-in-Ok
 unfolding sum_bytes
-returns c =
+returns-in-Ok c =
     let args = c.args in
     let bytes = take input_limit args.input.now in
-    let made = c.transform_input-answered.ensures in
-    let totals = made.totals_value ∙ sym (done (input_job (sheet_totals program_width) no_totals bytes) made.answer_value c.number.ensures c.if-number-ne0.false refl) in
-    let is = ap (λ (t : Totals). sum_line t.samples t.firsts) totals ∙ accepted_bytes bytes made.answer_value c.number.ensures sums_of c.if-number-ne0.false in
+    let made = c.in-Ok.ensures in
+    let totals = made.totals_value ∙ sym (done (input_job (sheet_totals program_width) no_totals bytes) _ made.answer_value refl) in
+    let is = ap (λ (t : Totals). sum_line t.samples t.firsts) totals ∙ accepted_bytes bytes sums_of _ made.answer_value in
     let (m, (l, counts)) = promised args.output.now is c.line.ensures.value c.line.ensures.output_after in
     record { value = m; output_after = l; prefix_len = counts; input_kept = refl }

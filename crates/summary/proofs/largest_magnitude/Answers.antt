@@ -1,9 +1,11 @@
--- `largest_magnitude` meets its contract: the loop keeps the largest so far.
+-- The loop keeps the largest so far.
 use Rattle.std.specs.Prelude.{◌≡◌, ◌≤◌}
-use Rattle.integers.specs.Kit.{refl, ap, ◌∙◌, Bool, true, false, cond, List, ℕ, ltb, ℤ, pos, nat_abs}
+use Rattle.std.specs.Int.{int_max}
+use Rattle.std.proofs.lemmas.Int.{ints}
+use Rattle.std.proofs.lemmas.Bool.Decides.{nat_tests}
+use Rattle.integers.specs.Kit.{refl, ap, ◌∙◌, cond, List, ℕ, ltb, ℤ, pos, nat_abs}
 use native.Mathlib.Nat.{lt_of_lt_of_le}
 use native.Mathlib.Omega.{arith}
-use lib.Signed.{lt_z}
 use borrow.Author.Rules.{rules}
 use Rattle.integers.proofs.Signed.{in32, read_i32}
 use Rattle.limits.specs.Limits.{coefficient_limit}
@@ -11,20 +13,13 @@ use Rattle.to_floats.specs.Preconditions.{BlockInLimit}
 use Rattle.summary.specs.Summary.{magnitude_at}
 use Rattle.to_floats.specs.ToFloats.{coefficient_at}
 use Rattle.to_floats.proofs.Acceptance.{small}
-use Rattle.summary.proofs.Magnitudes.{held, Largest, largest_more, largest-all}
+use Rattle.summary.proofs.Magnitudes.{Largest, largest_more, largest-all}
 use Rattle.summary.proofs.largest_magnitude.Goals as goal
 
 -- the larger of two of them
-next : (k a : ℕ) → k ≤ coefficient_limit → a ≤ coefficient_limit → {m x r : ℤ} → m ≡ pos k → x ≡ pos a → r ≡ cond (lt_z m (in32 x)) (in32 x) m
+next : (k a : ℕ) → k ≤ coefficient_limit → a ≤ coefficient_limit → {m x r : ℤ} → m ≡ pos k → x ≡ pos a → r ≡ int_max m (in32 x)
     → in32 r ≡ pos (cond (ltb k a) a k)
-next k a h l {m} {x} {r} d e f =
-    let read : in32 x ≡ pos a = rw e (held a l) in
-    let g : r ≡ cond (ltb k a) (pos a) (pos k) = rw (d, read) at f in
-    rw g (either (ltb k a))
-  where
-    either : (t : Bool) → in32 (cond t (pos a) (pos k)) ≡ pos (cond t a k)
-    either true = held a l
-    either false = held k h
+next k a h l {m} {x} {r} d e f = grind (arith, ints, nat_tests)
 
 -- what the loop keeps is the magnitude of a coefficient
 limited : {y : List ℤ} {p m : ℕ} → BlockInLimit y → Largest y p m → m ≤ coefficient_limit
@@ -36,8 +31,8 @@ loop-p-preserved c =
     let p = c.loop-p.p in
     let kept = c.loop-p.invariant in
     let read = read_i32 (coefficient_at y p) (search rules) in
-    let made : c.magnitude.result ≡ pos (magnitude_at y p) = c.magnitude.ensures ∙ ap (λ z. pos (nat_abs z)) read in
-    let e = next _ (magnitude_at y p) (limited c.requires kept.1) (small y c.requires p (omega arith)) kept.0 made c.higher-m.ensures in
+    let made : c.abs.result ≡ pos (magnitude_at y p) = c.abs.ensures.value ∙ ap (λ z. pos (nat_abs z)) read in
+    let e = next _ (magnitude_at y p) (limited c.requires kept.1) (small y c.requires p (omega arith)) kept.0 made c.max-m.ensures.value in
     rw e (refl, largest_more y (omega arith) kept.1)
 
 pub returns : goal.returns

@@ -1,4 +1,4 @@
--- `largest_place` meets its contract: the loop passes the places that have another magnitude.
+-- The loop passes the places that have another magnitude, and stops at the first that has it.
 use Rattle.std.specs.Prelude.{◌≡◌}
 use Rattle.integers.specs.Kit.{sym, ap, ◌∙◌, ℤ, pos, nat_abs}
 use native.Mathlib.Omega.{arith}
@@ -14,11 +14,11 @@ use Rattle.summary.proofs.largest_place.Goals as goal
 asked : {y z r : ℤ} → r ≡ pos (nat_abs z) → z ≡ y → of_z w32 r ≡ nat_abs y
 asked e f = rw (e, f)
 
-pub returns-then-magnitude-m : goal.returns-then-magnitude-m
-returns-then-magnitude-m c =
+pub returns-then-abs-m : goal.returns-then-abs-m
+returns-then-abs-m c =
     let y = c.args.coefficients.now in
     found_place y c.loop-p.p (omega arith) c.loop-p.invariant
-    (sym (asked c.magnitude.ensures (read_i32 (coefficient_at y c.loop-p.p) (search rules))) ∙ c.if-magnitude-m.true ∙ ap (of_z w32) c.requires.m_value)
+    (sym (asked c.abs.ensures.value (read_i32 (coefficient_at y c.loop-p.p) (search rules))) ∙ c.if-abs-m.true ∙ ap (of_z w32) c.requires.m_value)
 
-pub returns : goal.returns
-returns c = absurd (not_before c.args.coefficients.now c.loop-p-test.false c.loop-p.invariant)
+pub unreachable-requires : goal.unreachable-requires
+unreachable-requires c = not_before c.args.coefficients.now c.loop-p-test.false c.loop-p.invariant

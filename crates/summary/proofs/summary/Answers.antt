@@ -1,13 +1,14 @@
--- `summary` meets its contract: the check decides, and past it `grey_of` makes the floats.
+-- The check decides, and past it `grey_of` makes the floats.
 use Rattle.std.specs.Prelude.{◌≡◌}
-use Rattle.integers.specs.Kit.{refl, List, ℤ}
-use lib.Ieee.{of_bits}
+use Rattle.integers.specs.Kit.{◌∙◌, List, ℤ}
+use borrow.Author.Rules.{rules}
 use Rattle.limits.specs.Limits.{places}
-use Rattle.answers.specs.Answer.{Returned, accept, answered}
+use Rattle.answers.specs.Answer as answers
+use Rattle.answers.specs.Answer.{Returned, accept, answered, returned}
 use Rattle.answers.specs.Job.{job_returned}
-use Rattle.answers.proofs.Jobs.{refused, is_accepted, done}
+use Rattle.answers.proofs.Jobs.{done, is_accepted, refused}
 use Rattle.to_floats.specs.ToFloats.{to_floats_causes}
-use Rattle.summary.specs.Summary.{summary_job}
+use Rattle.summary.specs.Summary.{given_or_zeros, summary_job, zeros}
 use Rattle.summary.proofs.Acceptance.{summary_means}
 use Rattle.summary.proofs.summary.Goals as goal
 
@@ -16,20 +17,25 @@ checked : (y : List ℤ) {a : Returned} → a ≡ answered (to_floats_causes y p
 unfolding answered
 checked y e = e
 
-pub returns-then-number-ne0 : goal.returns-then-number-ne0
-unfolding of_bits
-returns-then-number-ne0 c =
-    let y = c.args.coefficients.now in
-    let a = checked y c.check-answer.ensures in
-    record { answer_value = a; grey_value = refused (summary_job y) a c.number.ensures c.if-number-ne0.true; coefficients_kept = refl }
+pub returns-in_err-check-clause-answer_value : goal.returns-in_err-check-clause-answer_value
+returns-in_err-check-clause-answer_value c =
+    let passed : returned c.from_residual.result ≡ answers.refused c.in_err-check.field-0.0 = search rules in
+    passed ∙ checked c.args.coefficients.now c.in_err-check.ensures
+
+pub returns-in_err-check-clause-grey_value : goal.returns-in_err-check-clause-grey_value
+returns-in_err-check-clause-grey_value c =
+    let none : given_or_zeros c.from_residual.result ≡ zeros = search rules in
+    none ∙ refused (summary_job c.args.coefficients.now) _ (checked c.args.coefficients.now c.in_err-check.ensures)
 
 pub grey_of-requires : goal.grey_of-requires
 grey_of-requires c =
     let y = c.args.coefficients.now in
-    summary_means y (is_accepted (summary_job y) (checked y c.check-answer.ensures) c.number.ensures c.if-number-ne0.false)
+    summary_means y (is_accepted (summary_job y) _ (checked y c.in_ok-check.ensures))
 
-pub returns : goal.returns
-returns c =
+pub returns-clause-answer_value : goal.returns-clause-answer_value
+returns-clause-answer_value c = checked c.args.coefficients.now c.in_ok-check.ensures
+
+pub returns-clause-grey_value : goal.returns-clause-grey_value
+returns-clause-grey_value c =
     let y = c.args.coefficients.now in
-    let a = checked y c.check-answer.ensures in
-    record { answer_value = a; grey_value = done (summary_job y) a c.number.ensures c.if-number-ne0.false c.grey_of.ensures; coefficients_kept = refl }
+    done (summary_job y) _ (checked y c.in_ok-check.ensures) c.grey_of.ensures

@@ -1,4 +1,4 @@
--- `fill` meets its contract: the loop fills the floats one by one.
+-- Then all of them are.
 use native.Mathlib.Omega.{arith}
 use Rattle.integers.proofs.Tables.{filled_all}
 use Rattle.to_floats.proofs.fill.Goals as goal

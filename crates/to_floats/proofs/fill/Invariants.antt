@@ -1,5 +1,4 @@
--- `fill` meets its contract: the loop fills the floats one by one.
-use Rattle.std.specs.Prelude.{◌-◌}
+-- The floats are written one by one.
 use Rattle.integers.proofs.Tables.{Filled}
 use Rattle.limits.specs.Limits.{places}
 use Rattle.floats.specs.Fraction.{coefficient_float, plus_zero}
@@ -8,6 +7,3 @@ use Rattle.to_floats.proofs.fill.Given as goal
 
 abbrev pub invariant-loop-p : goal.invariant-loop-p
 invariant-loop-p l = Filled plus_zero places (λ k. coefficient_float (coefficient_at l.coefficients k)) l.p l.floats
-
-abbrev pub decreases-loop-p : goal.decreases-loop-p
-decreases-loop-p l = 64 - l.p

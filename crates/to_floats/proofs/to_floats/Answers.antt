@@ -1,25 +1,18 @@
--- `to_floats` meets its contract: the check decides, and past it `fill` makes the floats.
-use Rattle.answers.proofs.Jobs.{refused, is_accepted, done}
+-- The check decides, and past it `fill` makes the floats.
+use Rattle.answers.proofs.Jobs.{done, is_accepted, refused}
 use Rattle.to_floats.specs.ToFloats.{to_floats_job}
 use Rattle.to_floats.proofs.Acceptance.{floats_means}
 use Rattle.to_floats.proofs.to_floats.Goals as goal
 
-pub returns-then-number-ne0-clause-floats_after : goal.returns-then-number-ne0-clause-floats_after
-returns-then-number-ne0-clause-floats_after c =
-    let args = c.args in
-    let job = to_floats_job args.coefficients.now args.floats.now in
-    refused job c.check-answer.ensures c.number.ensures c.if-number-ne0.true
+pub returns-in_err-check-clause-floats_after : goal.returns-in_err-check-clause-floats_after
+returns-in_err-check-clause-floats_after c = refused (to_floats_job c.args.coefficients.now c.args.floats.now) _ c.in_err-check.ensures
 
 pub fill-requires : goal.fill-requires
 fill-requires c =
     let args = c.args in
-    let job = to_floats_job args.coefficients.now args.floats.now in
-    let accepted = is_accepted job c.check-answer.ensures c.number.ensures c.if-number-ne0.false in
-    let means = floats_means args.coefficients.now args.floats.now accepted in
-    record { block_in_limit = means.0; floats_len = means.1 }
+    let accepted = is_accepted (to_floats_job args.coefficients.now args.floats.now) _ c.in_ok-check.ensures in
+    let (within, room) = floats_means args.coefficients.now args.floats.now accepted in
+    record { block_in_limit = within; floats_len = room }
 
 pub returns-clause-floats_after : goal.returns-clause-floats_after
-returns-clause-floats_after c =
-    let args = c.args in
-    let job = to_floats_job args.coefficients.now args.floats.now in
-    done job c.check-answer.ensures c.number.ensures c.if-number-ne0.false c.fill.ensures
+returns-clause-floats_after c = done (to_floats_job c.args.coefficients.now c.args.floats.now) _ c.in_ok-check.ensures c.fill.ensures

@@ -7,7 +7,7 @@ use lib.Signed.{lt_z, non_neg}
 use mir.Syntax.{w32}
 use mir.Val.{Fits, SFits}
 use Rattle.integers.proofs.Signed.{in32, kept}
-use Rattle.words.specs.Word.{payloads, word, value_limit}
+use Rattle.words.specs.Word.{number, payloads, word, value_limit}
 use Rattle.words.proofs.Packing.{payload_of-negative, payload_of_other, negative-above, negative-plus}
 use Rattle.words.proofs.with_value.Goals as goal
 
@@ -35,14 +35,12 @@ module _ (z : ℤ) (h : nat_abs z < value_limit) where
 
 pub returns-then-z-lt0 : goal.returns-then-z-lt0
 returns-then-z-lt0 c = let z = c.args.z in
-    let k = c.args.k in
-    let h = c.requires.z_bound in
+    let h = c.requires in
     let e = c.if-z-lt0.true in
-    let s = c.with_payload.ensures ∙ ap (λ r. word k (nat_abs r)) (sum-read z h e _ (lit≤ tt) (lit≤ tt)) in
+    let s = c.with_payload.ensures ∙ ap (λ r. word (number c.args.k) (nat_abs r)) (sum-read z h e _ (lit≤ tt) (lit≤ tt)) in
     omega (arith, s, payload_of-negative z (rw (read z h) at e))
 
 pub returns : goal.returns
 returns c = let z = c.args.z in
-    let k = c.args.k in
-    let h = c.requires.z_bound in
-    c.with_payload-2.ensures ∙ ap (λ r. word k (nat_abs r)) (read z h) ∙ ap (word k) (sym (payload_of_other z (rw (read z h) at c.if-z-lt0.false)))
+    let h = c.requires in
+    c.with_payload-2.ensures ∙ ap (λ r. word (number c.args.k) (nat_abs r)) (read z h) ∙ ap (word (number c.args.k)) (sym (payload_of_other z (rw (read z h) at c.if-z-lt0.false)))

@@ -1,0 +1,2 @@
+-- What a caller in another language knows of a number that is returned.
+pub mod Numbers
