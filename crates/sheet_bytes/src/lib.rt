@@ -47,20 +47,29 @@ fn load(bytes: &[u8], words: &mut [u32])
     }
 }
 
-// The line of a refusal, at the start of `output`, and its length.
+// The line of a number and a place, at the start of `output`, and its length.
 // Kept: part after part, since no heap is used, and the library says of a `String` alone what `write!` leaves in it.
+pub fn line(number: u64, place: u64, output: &mut [u8]) -> usize
+    requires { line_limit ≤ length output.old }
+    ensures value { result ≡ length (program.refusal_line (record { number = number; place = place })) }
+    ensures output_after { output.new ≡ over (program.refusal_line (record { number = number; place = place })) output.old }
+{
+    let mut line = Writer::new(output);
+    line.put(b"refused ");
+    line.put_decimal(number);
+    line.put(b" at ");
+    line.put_decimal(place);
+    line.put(b"\n");
+    line.len()
+}
+
+// The line of a refusal, at the start of `output`, and its length.
 pub fn refusal(r: Refusal, output: &mut [u8]) -> usize
     requires { line_limit ≤ length output.old }
     ensures value { result ≡ length (program.refusal_line (refused r)) }
     ensures output_after { output.new ≡ over (program.refusal_line (refused r)) output.old }
 {
-    let mut line = Writer::new(output);
-    line.put(b"refused ");
-    line.put_decimal(r.number() as u64);
-    line.put(b" at ");
-    line.put_decimal(r.place() as u64);
-    line.put(b"\n");
-    line.len()
+    line(r.number() as u64, r.place() as u64, output)
 }
 
 // What is answered for the bytes that a program reads, which are the first 32,780 of `input`: bytes over are refused, and whole words go to the sheet
