@@ -19,7 +19,8 @@ pub returns-in_err-check_shape-clause-answer_value : goal.returns-in_err-check_s
 returns-in_err-check_shape-clause-answer_value c =
     let args = c.args in
     let passed : returned_with (λ (w : Width). length args.words.now) c.from_residual.result ≡ refused c.in_err-check_shape.field-0.0 = search rules in
-    passed ∙ wrong_shape components_size args.words.now args.b args.scratch args.output (accept_with (length args.words.now)) (read_width c.in-Ok.width c.in-Ok.ensures) _ c.in_err-check_shape.ensures
+    let is = read_width c.in-Ok.width c.in-Ok.ensures in
+    passed ∙ wrong_shape components_size args.words.now args.b args.scratch args.output (accept_with (length args.words.now)) is _ c.in_err-check_shape.ensures
 
 pub returns-in_err-sized-clause-answer_value : goal.returns-in_err-sized-clause-answer_value
 returns-in_err-sized-clause-answer_value c =
