@@ -11,7 +11,7 @@ use Rattle.integers.proofs.Search.{first_none, before_first, at_first, first-at,
 use Rattle.integers.proofs.Tests as tests
 use Rattle.answers.specs.declared.Refusal.{Refusal}
 use Rattle.answers.specs.declared.Refusal.TheVariants.{Lengths, Sample, Width, Magnitudes, NoBlock, Head, Words, End, Orientation, Step, Coefficient}
-use Rattle.answers.specs.Answer.{Returned, Cause, test, search, sized, answered, accept, accepted, refused, moved, moved_cause, moved_causes}
+use Rattle.answers.specs.Answer.{Returned, Cause, test, search, sized, answered, accept, accept_with, accepted, refused, moved, moved_cause, moved_causes}
 use Rattle.answers.specs.Answer.{Passes, Names, fails, faulty_at, Reason, holds, passes, none_holds, Each, Numbered}
 
 -- what a search of the code answers
@@ -121,21 +121,22 @@ not_accepted (Step k) = refl
 not_accepted (Coefficient p) = refl
 
 -- the first check refuses: so do both
-pub refused_first : (l rest : List Cause) (end : Returned) (e : Refusal) → refused e ≡ answered l accept → refused e ≡ answered (l ++ rest) end
-refused_first l rest end e h = only_reason (refused_before rest tt (not_accepted e) (subst (Reason accept l) (sym h) (some_reason l accept)))
+pub refused_first : (l rest : List Cause) (end : Returned) (e : Refusal) (n : ℕ) → refused e ≡ answered l (accept_with n) → refused e ≡ answered (l ++ rest) end
+refused_first l rest end e n h = only_reason (refused_before rest tt (not_accepted e) (subst (Reason (accept_with n) l) (sym h) (some_reason l (accept_with n))))
 
 -- it accepts: then the others decide
-pub accepted_first : (l rest : List Cause) (end r : Returned) → Each Numbered l → accept ≡ answered l accept → r ≡ answered rest end → r ≡ answered (l ++ rest) end
-accepted_first l rest end r k h g =
-    only_reason (passed_before l (accepted_means l accept k (subst (λ x. T (accepted x)) h tt)) (subst (Reason end rest) (sym g) (some_reason rest end)))
+pub accepted_first : (l rest : List Cause) (end r : Returned) → Each Numbered l → (m n : ℕ) → accept_with m ≡ answered l (accept_with n) → r ≡ answered rest end
+    → r ≡ answered (l ++ rest) end
+accepted_first l rest end r k m n h g =
+    only_reason (passed_before l (accepted_means l (accept_with n) k (subst (λ x. T (accepted x)) h tt)) (subst (Reason end rest) (sym g) (some_reason rest end)))
 
 -- the check of one length
 
 pub sized_refused : (n m : ℕ) (rest : List Cause) (end : Returned) (e : Refusal) → refused e ≡ answered (sized n m ∷ []) accept → refused e ≡ answered (sized n m ∷ rest) end
-sized_refused n m = refused_first (sized n m ∷ [])
+sized_refused n m rest end e h = refused_first (sized n m ∷ []) rest end e 0 h
 
 pub sized_accepted : (n m : ℕ) (rest : List Cause) (end r : Returned) → accept ≡ answered (sized n m ∷ []) accept → r ≡ answered rest end → r ≡ answered (sized n m ∷ rest) end
-sized_accepted n m rest end r = accepted_first (sized n m ∷ []) rest end r (lit< tt, tt)
+sized_accepted n m rest end r h g = accepted_first (sized n m ∷ []) rest end r (lit< tt, tt) 0 0 h g
 
 -- and then it is the one that the job asks for
 pub sized_is : (n m : ℕ) → accept ≡ answered (sized n m ∷ []) accept → n ≡ m

@@ -1,13 +1,12 @@
 -- The ways out of the check of the way back, without the names of its generated statement: what it returns.
-use Rattle.std.specs.Prelude.{◌≡◌, ◌∷◌, ◌/◌, ◌%◌, ◌<◌, Option, Some, None}
-use Rattle.std.specs.Option.{is_some}
+use Rattle.std.specs.Prelude.{◌≡◌, ◌∷◌, ◌/◌, ◌%◌, ◌<◌}
 use Rattle.std.proofs.lemmas.List.{get_or-take, length-take}
-use Rattle.integers.specs.Kit.{refl, sym, ap, subst, ◌∙◌, Bool, true, false, cond, List, [], ℕ, T, ltb, ℤ, pos, nat_abs, length, get_or, take}
+use Rattle.integers.specs.Kit.{refl, sym, ap, subst, ◌∙◌, Bool, true, false, List, [], ℕ, T, ltb, ℤ, pos, nat_abs, length, get_or, take}
 use native.Mathlib.Nat.{lt_of_lt_of_le}
 use native.Mathlib.Omega.{arith}
 use borrow.Author.Tests.{lt-ltb, ltb-true}
 use Rattle.integers.specs.Range.{beyond, beyond_at}
-use Rattle.integers.specs.Search.{any, first, found}
+use Rattle.integers.specs.Search.{any, first}
 use Rattle.integers.proofs.Ranges.{beyond-magnitude}
 use Rattle.integers.proofs.Search.{at_first, first_below, first_ext}
 use Rattle.integers.proofs.Tests.{fails}
@@ -32,15 +31,10 @@ module _ (e : List ℤ) (l : length e ≡ components_size) where
   pub length-read : length (take read_size e) ≡ read_size
   length-read = omega (arith, length-take read_size e)
 
-  pub read_any : {o : Option ℕ} → o ≡ found (length (take read_size e)) (beyond_at magnitudes_limit (take read_size e)) → is_some o ≡ any read_size (beyond_at magnitudes_limit e)
-  read_any h =
-      ap is_some h ∙ some _ (any (length (take read_size e)) (beyond_at magnitudes_limit (take read_size e)))
-      ∙ ap (λ n. any n (beyond_at magnitudes_limit (take read_size e))) length-read
+  pub read_any : any (length (take read_size e)) (beyond_at magnitudes_limit (take read_size e)) ≡ any read_size (beyond_at magnitudes_limit e)
+  read_any =
+      ap (λ n. any n (beyond_at magnitudes_limit (take read_size e))) length-read
       ∙ ap (λ i. ltb i read_size) (first_ext read_size _ _ (λ k b. ap (beyond magnitudes_limit) (get_or-take read_size e k (pos 0) b)))
-    where
-      some : (i : ℕ) (t : Bool) → is_some (cond t (Some i) None) ≡ t
-      some i true = refl
-      some i false = refl
 
 -- a number that is above the limit by itself: its element is above the limit
 

@@ -1,12 +1,16 @@
--- What decides whether a block has the elements: forward accepts it, and makes the same numbers.
-use Rattle.std.specs.Prelude.{◌≡◌, Result, Ok, Err}
+-- What decides whether a block has the elements: forward accepts it, and the 512 numbers agree one by one.
+use Rattle.std.specs.Prelude.{◌≡◌, ◌&&◌, ◌+◌, ◌≤◌, ◌<◌, Result, Ok, Err}
 use Rattle.std.specs.Result.{is_ok}
-use Rattle.std.proofs.Common.{int_eq}
-use Rattle.std.specs.Cmp.Lexicographic.{pointwise}
-use Rattle.std.specs.Cmp.Rules.{signed_items}
-use Rattle.integers.specs.Kit.{refl, sym, ap, subst, ◌∙◌, Bool, true, false, not, List, ℕ, T, ℤ, length}
-use mir.Facts.{and_yes}
-use borrow.Author.Tests.{not-true}
+use Rattle.integers.specs.Kit.{refl, sym, ap, subst, ◌∙◌, Bool, true, false, not, List, ℕ, T, eqb, ℤ, pos, length, get_or}
+use native.Mathlib.Nat.{not-suc-le-zero}
+use native.Mathlib.Decide.{ℕ_discrete}
+use native.Mathlib.Omega.{arith}
+use lib.Dec.{eqb→eq}
+use lib.Seq.{ext_get_or}
+use mir.Facts.{and_yes, yes_and}
+use mir.Syntax.{w32}
+use mir.Val.{of_z, to_z}
+use borrow.Author.Tests.{eq-eqb, not-true}
 use Rattle.integers.specs.Range.{outside_at}
 use Rattle.integers.specs.Test.{eq_list}
 use Rattle.integers.proofs.Tests.{holds, fails, every-at, every_passes, eq_list→≡, eq_list_refl}
@@ -26,13 +30,53 @@ pub accepts_ok : {A : Type 0} (r : Result A Refusal) → accepted (returned r) �
 accepts_ok (Ok x) = refl
 accepts_ok (Err e) = not_accepted e
 
--- what `==` says of two buffers
-pub compared : (a b : List ℤ) {r : Bool} → r ≡ pointwise int_eq a b → r ≡ eq_list a b
-compared a b {r} e = go r e
+-- two buffers, number by number
+
+-- the first i numbers of a and b are the same
+pub record Agree (a b : List ℤ) (i : ℕ) : Type 0 where
+  pub agree : (k : ℕ) → k < i → get_or a k (pos 0) ≡ get_or b k (pos 0)
+
+agree_more : {a b : List ℤ} {i : ℕ} → Agree a b i → get_or a i (pos 0) ≡ get_or b i (pos 0) → Agree a b (i + 1)
+agree_more {a} {b} {i} A e = record { agree = λ k h. go k h (ℕ_discrete k i) }
   where
-    go : (r : Bool) → r ≡ pointwise int_eq a b → r ≡ eq_list a b
-    go true e = let same = (signed_items a b).0 (sym e) in rw same (sym (holds (eq_list b b) (eq_list_refl b)))
-    go false e = sym (fails (eq_list a b) (λ t. subst T (sym (e ∙ (signed_items a b).1 (eq_list→≡ a b t))) tt))
+    go : (k : ℕ) → k < i + 1 → Dec (k ≡ i) → get_or a k (pos 0) ≡ get_or b k (pos 0)
+    go k h (yes p) = rw p e
+    go k h (no q) = A.agree k (omega arith)
+
+agree_all : (a b : List ℤ) {n i : ℕ} → length a ≡ n → length b ≡ n → n ≤ i → Agree a b i → true ≡ eq_list a b
+agree_all a b {n} {i} p q l A = go (ext_get_or (pos 0) a b (p ∙ sym q) (λ k h. let h' : k < n = rw p at h in A.agree k (omega arith)))
+  where
+    go : a ≡ b → true ≡ eq_list a b
+    go e = rw e (sym (holds (eq_list b b) (eq_list_refl b)))
+
+-- r is true only if the first i numbers agree, and it is true if the buffers are equal; where they differ later it may be either
+pub record Agreed (a b : List ℤ) (i : ℕ) (r : Bool) : Type 0 where
+  pub agrees : T r → Agree a b i
+  pub says : a ≡ b → T r
+
+pub agreed_none : {a b : List ℤ} → Agreed a b 0 true
+agreed_none = record { agrees = λ t. record { agree = λ k h. absurd (not-suc-le-zero h) }; says = λ e. tt }
+
+-- one number more, compared by its bits
+
+abbrev bits : List ℤ → ℕ → ℕ
+bits l i = of_z w32 (get_or l i (pos 0))
+
+pub agreed_more : {a b : List ℤ} {i : ℕ} {r : Bool} → Agreed a b i r → to_z w32 (bits a i) ≡ get_or a i (pos 0) → to_z w32 (bits b i) ≡ get_or b i (pos 0)
+    → Agreed a b (i + 1) (r && eqb (bits a i) (bits b i))
+agreed_more {a} {b} {i} {r} A read_a read_b = record {
+  agrees = λ t.
+      let (p, q) = and_yes r (eqb (bits a i) (bits b i)) t in
+      agree_more (A.agrees p) (sym read_a ∙ ap (to_z w32) (eqb→eq (bits a i) (bits b i) q) ∙ read_b);
+  says = λ e. yes_and r (eqb (bits a i) (bits b i)) (A.says e) (rw (eq-eqb (bits a i) (bits b i) (ap (λ l. bits l i) e)) tt);
+}
+
+pub agreed_all : (a b : List ℤ) {n i : ℕ} {r : Bool} → length a ≡ n → length b ≡ n → n ≤ i → Agreed a b i r → r ≡ eq_list a b
+agreed_all a b {n} {i} {r} p q l A = go r A
+  where
+    go : (r : Bool) → Agreed a b i r → r ≡ eq_list a b
+    go true A = agree_all a b p q l (A.agrees tt)
+    go false A = sym (fails (eq_list a b) (λ t. A.says (eq_list→≡ a b t)))
 
 -- the range, as a test and as a fact
 

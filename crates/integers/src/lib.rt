@@ -47,6 +47,13 @@ impl Interval {
         x < self.lowest || self.highest < x
     }
 
+    // Whether any number does.
+    pub fn any_outside(self, numbers: &[i32]) -> bool
+        ensures { result ≡ any (length numbers.now) (range.outside_at self.lowest self.highest numbers.now) }
+    {
+        any(numbers, &|x| self.excludes(x))
+    }
+
     // The lowest index of a number that does, if there is one.
     pub fn first_outside(self, numbers: &[i32]) -> Option<usize>
         ensures { result ≡ found (length numbers.now) (range.outside_at self.lowest self.highest numbers.now) }

@@ -31,7 +31,7 @@ pub const BLOCKS_LIMIT: usize = 128;
 pub const STEP_LIMIT: u32 = 1024;
 
 // The largest magnitude of a coefficient that comes in from outside.
-const COEFFICIENT_LIMIT: i32 = 4194303;
+pub const COEFFICIENT_LIMIT: i32 = 4194303;
 
 pub const COEFFICIENTS: Interval = Interval {
     lowest: -COEFFICIENT_LIMIT,

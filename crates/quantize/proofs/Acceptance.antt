@@ -51,8 +51,8 @@ ready {n} {steps} {m} h = passes_ready n steps m (accepted_means (step_causes n 
 -- a job that asks it refuses where it does, and otherwise the places decide
 module _ (faulty : ℕ → Bool) (n : ℕ) (steps : List ℕ) (m : ℕ) where
   pub steps_refused : (e : Refusal) → refused e ≡ answered (step_causes n steps m) accept → refused e ≡ answered (causes faulty n steps m) accept
-  steps_refused = refused_first (step_causes n steps m) (lowest places faulty 11 ∷ []) accept
+  steps_refused e = refused_first (step_causes n steps m) (lowest places faulty 11 ∷ []) accept e 0
 
   pub places_decide : {r : Returned} → accept ≡ answered (step_causes n steps m) accept → r ≡ answered (lowest places faulty 11 ∷ []) accept
       → r ≡ answered (causes faulty n steps m) accept
-  places_decide {r} = accepted_first (step_causes n steps m) (lowest places faulty 11 ∷ []) accept r (numbered n steps m)
+  places_decide {r} = accepted_first (step_causes n steps m) (lowest places faulty 11 ∷ []) accept r (numbered n steps m) 0 0

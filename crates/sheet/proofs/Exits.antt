@@ -3,7 +3,7 @@ use Rattle.std.specs.Prelude.{◌≡◌, ◌∷◌, ◌≤◌, ◌<◌}
 use Rattle.integers.specs.Kit.{sym, ◌∙◌, false, List, [], ℕ, T, leb, lit<, length}
 use borrow.Author.Tests.{lt-leb}
 use Rattle.answers.specs.declared.Refusal.{Refusal}
-use Rattle.answers.specs.Answer.{Returned, Cause, holds, fails, accept, answered, refused, sized, unless}
+use Rattle.answers.specs.Answer.{Returned, Cause, holds, fails, accept, accept_with, answered, refused, sized, unless}
 use Rattle.answers.proofs.Causes.{accepted_first, no_more, only_reason, passes_on, refused_first, sized_accepted, sized_refused}
 use Rattle.coefficients.specs.Tables.{width}
 use Rattle.sheet_checks.specs.Check.{sample_format, shape, contents}
@@ -24,12 +24,12 @@ module _ (size : ℕ) (words : List ℕ) (b s o : ℕ) (end : Returned) where
   no_width n = only_reason (holds (fails n))
 
   module _ (w : T (width b)) where
-    pub wrong_shape : (e : Refusal) → refused e ≡ answered (shape sample_format words) accept → Answered (refused e)
-    wrong_shape e h = refused_first (shape sample_format words) past_shape end e h ∙ sym (passes_on _ _ end w)
+    pub wrong_shape : (e : Refusal) (n : ℕ) → refused e ≡ answered (shape sample_format words) (accept_with n) → Answered (refused e)
+    wrong_shape e n h = refused_first (shape sample_format words) past_shape end e n h ∙ sym (passes_on _ _ end w)
 
-    module _ (h : accept ≡ answered (shape sample_format words) accept) where
+    module _ (m n : ℕ) (h : accept_with m ≡ answered (shape sample_format words) (accept_with n)) where
       past : {r : Returned} → r ≡ answered past_shape end → Answered r
-      past {r} g = accepted_first (shape sample_format words) past_shape end r (lit< tt, (lit< tt, tt)) h g ∙ sym (passes_on _ _ end w)
+      past {r} g = accepted_first (shape sample_format words) past_shape end r (lit< tt, (lit< tt, tt)) m n h g ∙ sym (passes_on _ _ end w)
 
       pub wrong_scratch : (e : Refusal) → refused e ≡ answered (sized s size ∷ []) accept → Answered (refused e)
       wrong_scratch e g = past (sized_refused s size _ end e g)
@@ -42,8 +42,8 @@ module _ (size : ℕ) (words : List ℕ) (b s o : ℕ) (end : Returned) where
           roomed : {r : Returned} → r ≡ answered (contents sample_format words ∷ []) end → Answered r
           roomed k = past (sized_accepted s size _ end _ g (k ∙ sym (passes_on _ _ end (roomy l))))
 
-          pub wrong_words : (e : Refusal) → refused e ≡ answered (contents sample_format words ∷ []) accept → Answered (refused e)
-          wrong_words e k = roomed (refused_first (contents sample_format words ∷ []) [] end e k)
+          pub wrong_words : (e : Refusal) (p : ℕ) → refused e ≡ answered (contents sample_format words ∷ []) (accept_with p) → Answered (refused e)
+          wrong_words e p k = roomed (refused_first (contents sample_format words ∷ []) [] end e p k)
 
-          pub accepted : accept ≡ answered (contents sample_format words ∷ []) accept → Answered end
-          accepted k = roomed (accepted_first (contents sample_format words ∷ []) [] end end ((λ i t. cause_named sample_format words i), tt) k (no_more end))
+          pub accepted : (p q : ℕ) → accept_with p ≡ answered (contents sample_format words ∷ []) (accept_with q) → Answered end
+          accepted p q k = roomed (accepted_first (contents sample_format words ∷ []) [] end end ((λ i t. cause_named sample_format words i), tt) p q k (no_more end))

@@ -2,7 +2,7 @@
 use Rattle.std.specs.Prelude.{◌≡◌, ◌∷◌}
 use Rattle.integers.specs.Kit.{false, List, [], ℕ, T, eqb, lit<, length}
 use Rattle.answers.specs.declared.Refusal.{Refusal}
-use Rattle.answers.specs.Answer.{Returned, Each, Passes, Reason, holds, passes, none_holds, accept, accepted, answered, refused}
+use Rattle.answers.specs.Answer.{Returned, Each, Passes, Reason, holds, passes, none_holds, accept_with, accepted, answered, refused}
 use Rattle.answers.proofs.Causes.{excludes, accepted_first, accepted_means, refused_first}
 use Rattle.sheet_checks.specs.declared.Format.{Format}
 use Rattle.sheet_checks.specs.Check.{blocks, size_of, has_head, shape, contents, check_causes}
@@ -33,14 +33,14 @@ module _ (f : Format) (words : List ℕ) where
 
   -- where the shape is refused, so is the sheet; and where not, the words decide
 
-  pub shape_refused : (e : Refusal) → refused e ≡ answered (shape f words) accept → refused e ≡ answered (check_causes f words) accept
-  shape_refused e h = refused_first (shape f words) (contents f words ∷ []) accept e h
+  pub shape_refused : (e : Refusal) (n : ℕ) (end : Returned) → refused e ≡ answered (shape f words) (accept_with n) → refused e ≡ answered (check_causes f words) end
+  shape_refused e n end h = refused_first (shape f words) (contents f words ∷ []) end e n h
 
-  module _ (h : accept ≡ answered (shape f words) accept) where
+  module _ (m n : ℕ) (h : accept_with m ≡ answered (shape f words) (accept_with n)) where
     pub shaped : ValidShape f words
     shaped =
-        let (head, (count, rest)) = accepted_means (shape f words) accept (lit< tt, (lit< tt, tt)) (rw (← h) tt) in
+        let (head, (count, rest)) = accepted_means (shape f words) (accept_with n) (lit< tt, (lit< tt, tt)) (rw (← h) tt) in
         sheets.valid_shape f words head count
 
-    pub words_decide : {r : Returned} → r ≡ answered (contents f words ∷ []) accept → r ≡ answered (check_causes f words) accept
-    words_decide {r} d = accepted_first (shape f words) (contents f words ∷ []) accept r (lit< tt, (lit< tt, tt)) h d
+    pub words_decide : (end : Returned) {r : Returned} → r ≡ answered (contents f words ∷ []) end → r ≡ answered (check_causes f words) end
+    words_decide end {r} d = accepted_first (shape f words) (contents f words ∷ []) end r (lit< tt, (lit< tt, tt)) m n h d

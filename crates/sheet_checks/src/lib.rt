@@ -6,7 +6,7 @@ ghost use Rattle.std.specs.Prelude.{◌≡◌, ◌∷◌, ◌≤◌};
 ghost use Rattle.integers.specs.Kit.{[], cond, length};
 ghost use Rattle.integers.specs.Search.{found};
 ghost use Rattle.limits.specs.Limits.{blocks_limit};
-ghost use Rattle.answers.specs.Answer.{accept, answered, refused, returned};
+ghost use Rattle.answers.specs.Answer.{accept, accept_with, answered, refused, returned, returned_with};
 ghost use Rattle.sheet_checks.specs.Check as check;
 ghost use Rattle.sheet_checks.specs.Sheets.{ValidShape};
 
@@ -73,15 +73,15 @@ fn blocks_of(head: u32, sheet: &[u32]) -> Option<usize>
     }
 }
 
-// The check of the head and of the count of words.
-pub fn check_shape(f: Format, sheet: &[u32]) -> Result<(), Refusal>
-    ensures { returned result ≡ answered (check.shape f sheet.now) accept }
+// The check of the head and of the count of words, and that count.
+pub fn check_shape(f: Format, sheet: &[u32]) -> Result<usize, Refusal>
+    ensures { returned_with (λ n. n) result ≡ answered (check.shape f sheet.now) (accept_with (length sheet.now)) }
 {
     let Some(n) = blocks_of(f.head, sheet) else {
         return Err(Refusal::Head(0));
     };
     if sheet.len() == size_of(n) {
-        Ok(())
+        Ok(sheet.len())
     } else {
         Err(Refusal::Words(sheet.len()))
     }
@@ -135,21 +135,24 @@ fn first_faulty(f: Format, body: &[u32]) -> Option<usize>
     first(body, |w| body_faulty(f, w))
 }
 
-// The check of the words of a sheet whose head and count are right.
-pub fn check_words(f: Format, sheet: &[u32]) -> Result<(), Refusal>
+// The check of the words of a sheet whose head and count are right, and how many there are.
+pub fn check_words(f: Format, sheet: &[u32]) -> Result<usize, Refusal>
     requires { ValidShape f sheet.now }
-    ensures { returned result ≡ answered (check.contents f sheet.now ∷ []) accept }
+    ensures { returned_with (λ n. n) result ≡ answered (check.contents f sheet.now ∷ []) (accept_with (length sheet.now)) }
 {
     let last = sheet.len() - 1;
     match first_faulty(f, &sheet[1..last]) {
         Some(k) => Err(body_refusal(f, sheet[1 + k], 1 + k)),
-        None => check_end(words::blocks(sheet[0]) as usize, sheet[last], last),
+        None => {
+            check_end(words::blocks(sheet[0]) as usize, sheet[last], last)?;
+            Ok(sheet.len())
+        }
     }
 }
 
-// The whole check, of a job that asks for nothing else.
-pub fn check_sheet(f: Format, sheet: &[u32]) -> Result<(), Refusal>
-    ensures { returned result ≡ answered (check.check_causes f sheet.now) accept }
+// The whole check, of a job that asks for nothing else, and how many words there are.
+pub fn check_sheet(f: Format, sheet: &[u32]) -> Result<usize, Refusal>
+    ensures { returned_with (λ n. n) result ≡ answered (check.check_causes f sheet.now) (accept_with (length sheet.now)) }
 {
     check_shape(f, sheet)?;
     check_words(f, sheet)

@@ -1,6 +1,6 @@
 -- The check refuses, or what the passes restore is compared, and stored where it is the block.
 use Rattle.std.specs.Prelude.{◌≡◌}
-use Rattle.integers.specs.Kit.{sym, ◌∙◌, length}
+use Rattle.integers.specs.Kit.{◌∙◌, length}
 use borrow.Author.Rules.{rules}
 use Rattle.limits.specs.Limits.{places}
 use Rattle.answers.specs.Answer.{returned}
@@ -29,10 +29,8 @@ returns-then-not-is_block_of-clause-samples_after c =
     let said = (no_block _ _ limited.size room c.is_block_of.ensures c.restored-block.ensures c.refusal.ensures c.if-not-is_block_of.true).0 in
     refused (back_job 2 c.args.elements.now c.args.samples.now) _ said
 
-pub copy_from_slice-requires : goal.copy_from_slice-requires
-copy_from_slice-requires c =
-    let size : length c.restored-block.result ≡ places = search rules in
-    c.in_ok-check.ensures.1 ∙ sym size
+pub store-requires : goal.store-requires
+store-requires c = c.in_ok-check.ensures.1
 
 pub returns-clause-result_value : goal.returns-clause-result_value
 returns-clause-result_value c =
@@ -45,4 +43,4 @@ returns-clause-samples_after c =
     let (limited, room) = c.in_ok-check.ensures in
     let size : length c.restored-block.result ≡ places = search rules in
     let (said, block) = found_block _ _ limited.size room c.is_block_of.ensures size c.if-not-is_block_of.false in
-    done (back_job 2 c.args.elements.now c.args.samples.now) _ said (c.copy_from_slice.ensures.after ∙ block)
+    done (back_job 2 c.args.elements.now c.args.samples.now) _ said (c.store.ensures ∙ block)

@@ -20,21 +20,21 @@ returns-in_err-sized-2 c =
     let passed : c.from_residual-in_err-sized-2.result ≡ Err c.in_err-sized-2.field-0.0 = search rules in
     rw passed (sized_accepted _ _ _ _ _ c.in_ok-sized.ensures (sized_refused _ _ _ _ _ c.in_err-sized-2.ensures))
 
-pub slice_bounds-first_outside-end : goal.slice_bounds-first_outside-end
-slice_bounds-first_outside-end c = sym (length-read c.args.elements.now (sized_is _ _ c.in_ok-sized.ensures))
+pub slice_bounds-any_outside-end : goal.slice_bounds-any_outside-end
+slice_bounds-any_outside-end c = sym (length-read c.args.elements.now (sized_is _ _ c.in_ok-sized.ensures))
 
 pub refusal-requires : goal.refusal-requires
 refusal-requires c = sized_is _ _ c.in_ok-sized.ensures
 
-pub returns-then-is_some : goal.returns-then-is_some
-returns-then-is_some c =
+pub returns-then-any_outside : goal.returns-then-any_outside
+returns-then-any_outside c =
     let size = sized_is _ _ c.in_ok-sized.ensures in
-    let any = sym (c.is_some.ensures ∙ read_any c.args.elements.now size c.first_outside.ensures) ∙ c.if-is_some.true in
+    let any = sym (c.any_outside.ensures ∙ read_any c.args.elements.now size) ∙ c.if-any_outside.true in
     (too_large _ _ size (sized_is _ _ c.in_ok-sized-2.ensures) c.refusal.ensures any).0
 
-pub returns-else-is_some : goal.returns-else-is_some
-returns-else-is_some c =
+pub returns-else-any_outside : goal.returns-else-any_outside
+returns-else-any_outside c =
     let e = c.args.elements.now in
     let size = sized_is _ _ c.in_ok-sized.ensures in
-    let none = any_none read_size _ (sym (c.is_some.ensures ∙ read_any e size c.first_outside.ensures) ∙ c.if-is_some.false) in
+    let none = any_none read_size _ (sym (c.any_outside.ensures ∙ read_any e size) ∙ c.if-any_outside.false) in
     (record { size = size; in_limit = λ i h. within_limit magnitudes_limit (get_or e i (pos 0)) (none i h) }, sized_is _ _ c.in_ok-sized-2.ensures)

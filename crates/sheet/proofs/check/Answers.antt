@@ -20,24 +20,24 @@ returns-in_err-check_shape-clause-answer_value c =
     let args = c.args in
     let passed : returned_with (λ (w : Width). length args.words.now) c.from_residual.result ≡ refused c.in_err-check_shape.field-0.0 = search rules in
     let is = read_width c.in-Ok.width c.in-Ok.ensures in
-    passed ∙ wrong_shape components_size args.words.now args.b args.scratch args.output (accept_with (length args.words.now)) is _ c.in_err-check_shape.ensures
+    passed ∙ wrong_shape components_size args.words.now args.b args.scratch args.output (accept_with (length args.words.now)) is _ _ c.in_err-check_shape.ensures
 
 pub returns-in_err-sized-clause-answer_value : goal.returns-in_err-sized-clause-answer_value
 returns-in_err-sized-clause-answer_value c =
     let args = c.args in
     let passed : returned_with (λ (w : Width). length args.words.now) c.from_residual-in_err-sized.result ≡ refused c.in_err-sized.field-0.0 = search rules in
     let is = read_width c.in-Ok.width c.in-Ok.ensures in
-    passed ∙ wrong_scratch components_size args.words.now args.b args.scratch args.output (accept_with (length args.words.now)) is c.in_ok-check_shape.ensures _ c.in_err-sized.ensures
+    passed ∙ wrong_scratch components_size args.words.now args.b args.scratch args.output (accept_with (length args.words.now)) is _ _ c.in_ok-check_shape.ensures _ c.in_err-sized.ensures
 
 pub returns-then-output-words-clause-answer_value : goal.returns-then-output-words-clause-answer_value
 returns-then-output-words-clause-answer_value c =
     let args = c.args in
     let is = read_width c.in-Ok.width c.in-Ok.ensures in
     no_room components_size args.words.now args.b args.scratch args.output (accept_with (length args.words.now)) is
-    c.in_ok-check_shape.ensures c.in_ok-sized.ensures c.if-output-words.true
+    _ _ c.in_ok-check_shape.ensures c.in_ok-sized.ensures c.if-output-words.true
 
 pub check_words-requires : goal.check_words-requires
-check_words-requires c = shaped sample_format c.args.words.now c.in_ok-check_shape.ensures
+check_words-requires c = shaped sample_format c.args.words.now _ _ c.in_ok-check_shape.ensures
 
 pub returns-in_err-check_words-clause-answer_value : goal.returns-in_err-check_words-clause-answer_value
 returns-in_err-check_words-clause-answer_value c =
@@ -45,11 +45,11 @@ returns-in_err-check_words-clause-answer_value c =
     let passed : returned_with (λ (w : Width). length args.words.now) c.from_residual-in_err-check_words.result ≡ refused c.in_err-check_words.field-0.0 = search rules in
     let is = read_width c.in-Ok.width c.in-Ok.ensures in
     passed ∙ wrong_words components_size args.words.now args.b args.scratch args.output (accept_with (length args.words.now)) is
-    c.in_ok-check_shape.ensures c.in_ok-sized.ensures c.if-output-words.false _ c.in_err-check_words.ensures
+    _ _ c.in_ok-check_shape.ensures c.in_ok-sized.ensures c.if-output-words.false _ _ c.in_err-check_words.ensures
 
 pub returns-clause-answer_value : goal.returns-clause-answer_value
 returns-clause-answer_value c =
     let args = c.args in
     let is = read_width c.in-Ok.width c.in-Ok.ensures in
     accepted components_size args.words.now args.b args.scratch args.output (accept_with (length args.words.now)) is
-    c.in_ok-check_shape.ensures c.in_ok-sized.ensures c.if-output-words.false c.in_ok-check_words.ensures
+    _ _ c.in_ok-check_shape.ensures c.in_ok-sized.ensures c.if-output-words.false _ _ c.in_ok-check_words.ensures
